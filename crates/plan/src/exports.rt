@@ -10,10 +10,8 @@ use crate::numbers::Plan;
 pub extern "C" fn plan_meta_period(alpha: u32, period: u32, writes: u32) -> u32
     ensures { λ r. ⌜ r ≡ cond (in-range alpha period writes) (plan-of alpha period writes .«meta_period») 0 ⌝ }
 {
-    match Plan::of(alpha, period, writes) {
-        Some(plan) => plan.meta_period,
-        None => 0,
-    }
+    let (meta_period, _, _) = numbers_or_zeros(alpha, period, writes);
+    meta_period
 }
 
 // How many pages a meta-period may write, W.
@@ -21,10 +19,8 @@ pub extern "C" fn plan_meta_period(alpha: u32, period: u32, writes: u32) -> u32
 pub extern "C" fn plan_writes(alpha: u32, period: u32, writes: u32) -> u32
     ensures { λ r. ⌜ r ≡ cond (in-range alpha period writes) (plan-of alpha period writes .writes) 0 ⌝ }
 {
-    match Plan::of(alpha, period, writes) {
-        Some(plan) => plan.writes,
-        None => 0,
-    }
+    let (_, writes, _) = numbers_or_zeros(alpha, period, writes);
+    writes
 }
 
 // How many runs the collector makes in a meta-period, k.
@@ -32,8 +28,17 @@ pub extern "C" fn plan_writes(alpha: u32, period: u32, writes: u32) -> u32
 pub extern "C" fn plan_runs(alpha: u32, period: u32, writes: u32) -> u32
     ensures { λ r. ⌜ r ≡ cond (in-range alpha period writes) (plan-of alpha period writes .runs) 0 ⌝ }
 {
+    let (_, _, runs) = numbers_or_zeros(alpha, period, writes);
+    runs
+}
+
+fn numbers_or_zeros(alpha: u32, period: u32, writes: u32) -> (u32, u32, u32)
+    ensures meta_period { λ r. ⌜ r .0 ≡ cond (in-range alpha period writes) (plan-of alpha period writes .«meta_period») 0 ⌝ }
+    ensures writes { λ r. ⌜ r .1 ≡ cond (in-range alpha period writes) (plan-of alpha period writes .writes) 0 ⌝ }
+    ensures runs { λ r. ⌜ r .2 ≡ cond (in-range alpha period writes) (plan-of alpha period writes .runs) 0 ⌝ }
+{
     match Plan::of(alpha, period, writes) {
-        Some(plan) => plan.runs,
-        None => 0,
+        Some(plan) => plan.numbers(),
+        None => (0, 0, 0),
     }
 }

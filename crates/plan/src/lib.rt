@@ -3,6 +3,8 @@ mod exports;
 mod figures;
 mod numbers;
 mod plans;
+#[cfg(test)]
+mod tests;
 mod yields;
 
 pub use exports::plan_meta_period;
