@@ -1,0 +1,10 @@
+// Scripts: lines of words, numbers in words, and numbers in answers.
+mod numbers;
+mod readers;
+mod reading;
+mod writing;
+
+pub use numbers::number;
+pub use readers::Line;
+pub use readers::Script;
+pub use writing::push_number;
