@@ -1,0 +1,4 @@
+// A sheet of jobs, a line each, answered by a sheet of plans.
+mod sheets;
+
+pub use sheets::plan_sheet;
