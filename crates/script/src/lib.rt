@@ -2,6 +2,8 @@
 mod numbers;
 mod readers;
 mod reading;
+#[cfg(test)]
+mod tests;
 mod writing;
 
 pub use numbers::number;

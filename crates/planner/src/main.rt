@@ -1,0 +1,13 @@
+// Reads a sheet of jobs from standard input and prints the sheet of plans.
+use sheet::plan_sheet;
+use std::error::AnyError;
+use std::io::Read;
+use std::io::Write;
+
+fn main(rt: LibcRuntime) -> Result<(), AnyError> {
+    let mut input = Vec::new(rt.alloc());
+    rt.stdin().read_to_end(&mut input)?;
+    let plans = plan_sheet(rt.alloc(), input.as_slice())?;
+    rt.stdout().write_all(plans.as_slice())?;
+    Ok(())
+}
