@@ -1,6 +1,7 @@
 -- What number a word is.
 --
 -- digit        the bytes of the digits 0 to 9
+-- digit-of     the digit that a byte is
 -- all-digits   every byte is a digit
 -- read-on      the number that digits write after those of n
 -- number-of    the number of a word of one digit or more, leading zeros allowed, up to 65,535; no other word is one
@@ -14,6 +15,9 @@ use Rattle.std.specs.declared.option.Option.the-variants.{Some, None}
 
 abbrev pub digit : ℕ → Bool
 digit b = leb 48 b && leb b 57
+
+abbrev pub digit-of : ℕ → Option ℕ
+digit-of b = cond (digit b) (Some (b - 48)) None
 
 abbrev pub all-digits : List ℕ → Bool
 all-digits [] = true

@@ -1,11 +1,14 @@
 ghost use mathlib.Core.List.{[], _++_, _∷_};
 ghost use mathlib.Core.Path.{_≡_};
+ghost use Prim.Native.Nat.{_≤_};
+ghost use lib.ListN.{length};
 ghost use Rattle.std.specs.Of.Vec.{vec-items};
 ghost use Rattle.std.specs.Options.{mapped};
 ghost use Rattle.std.specs.Vec.{made};
 ghost use Rattle.script.specs.Reader.{words-left};
-ghost use Rattle.script.specs.Text.{line-feed};
-ghost use Rattle.sheet.specs.Sheet.{plan-for, plan-line, sheet-of, three-of};
+ghost use Rattle.script.specs.Text.{line-feed, script-of};
+ghost use Rattle.sheet.specs.Law.{Answers};
+ghost use Rattle.sheet.specs.Sheet.{most-bytes, plan-for, plan-line, sheet-of, three-of};
 use plan::Plan;
 use script::Line;
 use script::Script;
@@ -18,6 +21,13 @@ const MOST_BYTES: usize = 32_768;
 
 // Answers a sheet of jobs: for each line `alpha period writes` the numbers of its plan, and `?` for any other line.
 pub fn plan_sheet(heap: Global, input: &[u8]) -> Result<Vec<u8>, AllocError>
+    ensures bytes { λ r. ⌜ made r (λ out. vec-items out ≡ sheet-of (now (input .entry))) ⌝ }
+    ensures law { λ r. ⌜ made r (λ out. length (now (input .entry)) ≤ most-bytes → Answers (script-of (now (input .entry))) (script-of (vec-items out))) ⌝ }
+{
+    answer_all(heap, input)
+}
+
+fn answer_all(heap: Global, input: &[u8]) -> Result<Vec<u8>, AllocError>
     ensures { λ r. ⌜ made r (λ out. vec-items out ≡ sheet-of (now (input .entry))) ⌝ }
 {
     let mut out = Vec::new(heap);
