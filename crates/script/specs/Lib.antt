@@ -1,3 +1,4 @@
 pub mod Text
+pub mod Law
 pub mod Numbers
 pub mod Reader

@@ -2,6 +2,7 @@ ghost use mathlib.Core.Path.{_≡_};
 ghost use Prim.Native.Nat.{_+_, _≤_};
 ghost use lib.ListN.{drop, length};
 ghost use Rattle.std.specs.Options.{mapped};
+ghost use Rattle.script.specs.Law.{Cut-law};
 ghost use Rattle.script.specs.Reader.{Hands, lines-left, words-left};
 ghost use Rattle.script.specs.Text.{part, script-of};
 use crate::readers::Line;
@@ -9,7 +10,8 @@ use crate::readers::Script;
 
 impl<'a> Script<'a> {
     pub fn new(input: &'a [u8]) -> Script<'a>
-        ensures { λ r. ⌜ lines-left r ≡ script-of (now (input .entry)) ⌝ }
+        ensures lines { λ r. ⌜ lines-left r ≡ script-of (now (input .entry)) ⌝ }
+        ensures law { λ _. ⌜ Cut-law (now (input .entry)) ⌝ }
     {
         Script { input, place: 0 }
     }

@@ -10,8 +10,8 @@ use Rattle.script.specs.Text.{blank, line-feed}
 use Rattle.sheet.specs.Sheet.{plan-for, plan-line, plan-lines}
 
 -- three numbers with blanks between them, and a line feed
-pub three-numbers : (o : List ℕ) {o₁ o₂ o₃ o₄ o₅ o₆ : List ℕ} (a b c : List ℕ) → o₁ ≡ o ++ a → o₂ ≡ o₁ ++ (blank ∷ []) → o₃ ≡ o₂ ++ b → o₄ ≡ o₃ ++ (blank ∷ []) → o₅ ≡ o₄ ++ c → o₆ ≡ o₅ ++ (line-feed ∷ []) → o₆ ≡ o ++ ((a ++ (blank ∷ (b ++ (blank ∷ c)))) ++ (line-feed ∷ []))
-three-numbers o a b c e₁ e₂ e₃ e₄ e₅ e₆ =
+pub three-numbers : (o o₁ o₂ o₃ o₄ o₅ o₆ a b c : List ℕ) → o₁ ≡ o ++ a → o₂ ≡ o₁ ++ (blank ∷ []) → o₃ ≡ o₂ ++ b → o₄ ≡ o₃ ++ (blank ∷ []) → o₅ ≡ o₄ ++ c → o₆ ≡ o₅ ++ (line-feed ∷ []) → o₆ ≡ o ++ ((a ++ (blank ∷ (b ++ (blank ∷ c)))) ++ (line-feed ∷ []))
+three-numbers o o₁ o₂ o₃ o₄ o₅ o₆ a b c e₁ e₂ e₃ e₄ e₅ e₆ =
     let joined : (((((o ++ a) ++ (blank ∷ [])) ++ b) ++ (blank ∷ [])) ++ c) ++ (line-feed ∷ []) ≡ o ++ ((a ++ (blank ∷ (b ++ (blank ∷ c)))) ++ (line-feed ∷ [])) = simp append-assoc in
     cc
 

@@ -10,14 +10,10 @@ use Rattle.std.proofs.shelf.Decimals.{decimal-some, digits-decimal, value-decim
 use Rattle.std.proofs.shelf.Numerals.{Numerals, numerals-by-fold}
 use Rattle.std.proofs.shelf.Tests.{and-parts, cond-false, cond-true, eq-eqb, leb-true, ne-eqb}
 use Rattle.std.specs.Written.{decimal}
+use Rattle.script.specs.Law.{Clear}
 use Rattle.script.specs.Numbers.{all-digits, digit, read-on}
 use Rattle.script.specs.Text.{cut-at, onto-first}
 use Rattle.sheet.specs.Law.{Writes}
-
--- no byte is the mark
-abbrev pub Clear : ℕ → List ℕ → Type 0
-Clear mark [] = Unit {0}
-Clear mark (b ∷ bs) = (eqb b mark ≡ false) × Clear mark bs
 
 pub clear-joined : (mark : ℕ) (xs ys : List ℕ) → Clear mark xs → Clear mark ys → Clear mark (xs ++ ys)
 clear-joined mark [] ys c d = d

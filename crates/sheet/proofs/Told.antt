@@ -13,9 +13,10 @@ use Rattle.std.specs.declared.option.Option.the-variants.{Some, None}
 use Rattle.plan.proofs.Law.{law-of, Small, small-of}
 use Rattle.plan.specs.Plan.{in-range, plan-of, planned}
 use Rattle.plan.specs.declared.numbers.Plan.{Plan}
+use Rattle.script.specs.Law.{Clear}
 use Rattle.script.specs.Numbers.{number-of}
 use Rattle.script.specs.Text.{blank, line-feed, script-of, words-of}
-use Rattle.sheet.proofs.Parts.{Clear, clear-digits, clear-joined, cut-last, cut-through, decimal-writes}
+use Rattle.sheet.proofs.Parts.{clear-digits, clear-joined, cut-last, cut-through, decimal-writes}
 use Rattle.sheet.specs.Law.{Answered, Answers, Asks, by-mark, by-plan}
 use Rattle.sheet.specs.Sheet.{and-then, most-bytes, plan-for, plan-line, plan-lines, sheet-of}
 
