@@ -1,0 +1,2 @@
+pub mod Askable
+pub mod Totals
