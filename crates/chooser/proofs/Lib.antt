@@ -1,2 +1,3 @@
 pub mod Askable
 pub mod Totals
+pub mod Search
