@@ -1,3 +1,4 @@
 pub mod Askable
 pub mod Totals
 pub mod Search
+pub mod Yield

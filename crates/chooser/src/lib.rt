@@ -1,7 +1,12 @@
 // Policies that pick the block to empty, behind one law: the block named has at least the average of dead pages.
 mod chooser;
 mod counts;
+mod greedy;
 mod question;
+mod worth;
 
 pub use chooser::Chooser;
+pub use greedy::Greedy;
+pub use greedy::GreedyChooser;
 pub use question::Question;
+pub use worth::block_to_empty;
