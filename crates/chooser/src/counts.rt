@@ -1,13 +1,12 @@
-// What a list of counts comes to: its sum, its maximum, and the first block at or above the average.
+// What a list of counts comes to: its sum and its maximum.
 ghost use mathlib.Core.Path.{_≡_};
-ghost use Prim.Native.Nat.{_*_, _≤_};
-ghost use lib.Dec.{ltb};
+ghost use Prim.Native.Nat.{_≤_};
 ghost use lib.ListN.{length};
-ghost use Rattle.std.specs.shelf.Lists.{sum as all-dead};
-ghost use Rattle.chooser.specs.Counts.{Fullest, first-from, total-of};
+ghost use Rattle.chooser.specs.Counts.{Fullest, total-of};
 
 // The most blocks that a chooser is asked about, and the most dead pages that one of them has.
 const MOST_BLOCKS: usize = 64;
+
 const MOST_DEAD: u8 = 32;
 
 // The dead pages of all blocks together, or nothing where no chooser has to answer the list.
@@ -39,25 +38,4 @@ pub(crate) fn fullest(dead: &[u8]) -> usize
         }
     }
     best
-}
-
-// Whether a count lies below the average of `blocks` blocks, without a division.
-fn below_average(count: u8, blocks: u8, sum: u16) -> bool
-    ensures { λ r. ⌜ r ≡ ltb (count * blocks) sum ⌝ }
-{
-    u16::from(count) * u16::from(blocks) < sum
-}
-
-// The first block, at `from` or above it, that has at least the average.
-pub(crate) fn first_from(dead: &[u8], from: usize, sum: u16) -> Option<usize>
-    requires few { ⌜ length (now dead) ≤ 64 ⌝ }
-    requires summed { ⌜ sum ≡ all-dead (now dead) ⌝ }
-    ensures { λ r. ⌜ r ≡ first-from (now (dead .entry)) from ⌝ }
-{
-    for (block, count) in dead.iter().enumerate() {
-        if block >= from && !below_average(*count, dead.len() as u8, sum) {
-            return Some(block);
-        }
-    }
-    None
 }

@@ -1,7 +1,7 @@
 use mathlib.Core.Path.{_≡_}
 use Prim.Native.Nat.{_≤_}
 use Rattle.chooser.specs.Counts.{next-from}
-use Rattle.chooser.proofs.counts.first_from.Given as given
+use Rattle.chooser.proofs.average.first_from.Given as given
 
 -- past `from`, all that was passed over lies below the average
 abbrev pub Inv-loop-block : given.InvT-loop-block

@@ -1,7 +1,7 @@
 use native.Mathlib.Omega.{arith}
 use Rattle.chooser.proofs.Search.{searched, found}
-use Rattle.chooser.proofs.counts.first_from.Needs as need
-use Rattle.chooser.proofs.counts.first_from.Needs.{else-block-from·by·then-block-from·else-not-below-average as below, else-block-from·by·else-block-from as before}
+use Rattle.chooser.proofs.average.first_from.Needs as need
+use Rattle.chooser.proofs.average.first_from.Needs.{else-block-from·by·then-block-from·else-not-below-average as below, else-block-from·by·else-block-from as before}
 
 pub returns-then-not-below-average : need.returns-then-not-below-average
 returns-then-not-below-average c =
