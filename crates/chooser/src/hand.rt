@@ -1,8 +1,12 @@
 // Goes upwards and round, so that every block has its turn, and names the first that has at least the average.
+ghost use mathlib.Core.Bool.{true};
 ghost use mathlib.Core.Path.{_≡_};
-ghost use Rattle.chooser.specs.Hand.{hand-names, hand-stands};
-ghost use Rattle.chooser.specs.Law.{Answers};
-use crate::average::first_round;
+ghost use Prim.Native.Nat.{_<_};
+ghost use lib.ListN.{length};
+ghost use Rattle.chooser.specs.Hand.{first-round, hand-names, hand-stands};
+ghost use Rattle.chooser.specs.Law.{Answers, Yields, askable};
+ghost use Rattle.std.specs.shelf.Lists.{sum as all-dead};
+use crate::average::first_from;
 use crate::chooser::Chooser;
 use crate::counts::total;
 use crate::question::Question;
@@ -36,5 +40,19 @@ pub impl Chooser for Hand as HandChooser {
         let block = first_round(dead, from, sum) as u16;
         self.next = block + 1;
         block
+    }
+}
+
+// The first block that has at least the average, going up from `from` and round: there always is one.
+fn first_round(dead: &[u8], from: usize, sum: u16) -> usize
+    requires asked { ⌜ askable (now dead) ≡ true ⌝ }
+    requires there { ⌜ from < length (now dead) ⌝ }
+    requires summed { ⌜ sum ≡ all-dead (now dead) ⌝ }
+    ensures block { λ r. ⌜ r ≡ first-round (now (dead .entry)) from ⌝ }
+    ensures yields { λ r. ⌜ Yields (now (dead .entry)) r ⌝ }
+{
+    match first_from(dead, from, sum) {
+        Some(block) => block,
+        None => first_from(dead, 0, sum).unwrap(),
     }
 }

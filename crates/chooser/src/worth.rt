@@ -5,8 +5,15 @@ ghost use Rattle.chooser.specs.Law.{Answers, Worth, askable};
 use crate::chooser::Chooser;
 use crate::question::Question;
 
-// The block that a chooser names. Where the blocks have more than (a - 1) dead pages each on average, it has at least a.
+// The block that a chooser names: with s dead pages among n blocks and s > (a - 1) * n, it has at least a of them.
 pub fn block_to_empty<C: Chooser>(chooser: &mut C, question: Question<'_>) -> u16
+    ensures law { λ r. ⌜ Answers (now (question .entry .dead)) (now (chooser .entry)) r (now (chooser .exit)) ⌝ }
+    ensures worth { λ r. ⌜ (askable (now (question .entry .dead)) ≡ true → Worth (now (question .entry .dead)) r) ⌝ }
+{
+    named(chooser, question)
+}
+
+fn named<C: Chooser>(chooser: &mut C, question: Question<'_>) -> u16
     ensures law { λ r. ⌜ Answers (now (question .entry .dead)) (now (chooser .entry)) r (now (chooser .exit)) ⌝ }
     ensures worth { λ r. ⌜ (askable (now (question .entry .dead)) ≡ true → Worth (now (question .entry .dead)) r) ⌝ }
 {

@@ -1,7 +1,7 @@
 use mathlib.Core.Path.{ap, _∙_}
 use Prim.Native.Nat.{_≤_, _<_}
 use native.Mathlib.Omega.{arith}
-use borrow.Author.Count.{below-more}
+use borrow.Author.Needs.{needs}
 use lib.ListN.{length}
 use Rattle.std.specs.shelf.Lists.{sum}
 use Rattle.std.proofs.shelf.Lists.{take-all}
@@ -22,10 +22,8 @@ returns-then-block-ge-MOST-BLOCKS c =
       | above w ↦ not-above dead (c .loop-block .block) here (w .if-count-gt-MOST-DEAD .taken)
     ])
 
-pub loop-block-again : need.loop-block-again
-loop-block-again c =
-    let more = sumBy-more (λ x. x) (c .args .dead .now) (c .loop-block .block) 0 (c .loop-block-test .taken) in
-    (omega (arith, more), omega arith, omega arith, below-more _ _ (c .loop-block .inv .3) (c .if-count-gt-MOST-DEAD .left))
+pub loop-block-holds : need.loop-block-holds
+loop-block-holds c = (search needs, search needs, search needs, search needs, λ i there. sumBy-more (λ x. x) (c .args .dead .now) i 0 there)
 
 pub returns : need.returns
 returns c =

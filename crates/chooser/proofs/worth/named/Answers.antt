@@ -1,5 +1,5 @@
 use Rattle.chooser.proofs.Yield.{answer-worth}
-use Rattle.chooser.proofs.worth.block_to_empty.Needs as need
+use Rattle.chooser.proofs.worth.named.Needs as need
 
 pub returns : need.returns
 returns g c =

@@ -2,7 +2,7 @@ use mathlib.Core.Path.{ap, sym, _∙_}
 use Rattle.std.specs.Options.{isSome}
 use Rattle.chooser.proofs.Askable.{asked}
 use Rattle.chooser.proofs.Round.{found-always, met-up, met-again}
-use Rattle.chooser.proofs.average.first_round.Needs as need
+use Rattle.chooser.proofs.hand.first_round.Needs as need
 
 pub unwrap-requires : need.unwrap-requires
 unwrap-requires c κs =
