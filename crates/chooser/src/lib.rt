@@ -14,3 +14,6 @@ pub use hand::Hand;
 pub use hand::HandChooser;
 pub use question::Question;
 pub use worth::block_to_empty;
+
+#[cfg(test)]
+mod tests;
