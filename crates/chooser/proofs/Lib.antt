@@ -1,8 +1,8 @@
 pub mod Askable
-pub mod Tested
-pub mod Totals
-pub mod Search
 pub mod Yield
-pub mod Fronts
-pub mod Reaching
-pub mod Round
+mod Tested
+mod Totals
+mod Fronts
+mod Search
+mod Reaching
+mod Round

@@ -1,4 +1,3 @@
-// Names a block with the most dead pages; which of several is left open.
 ghost use mathlib.Core.Bool.{true};
 ghost use mathlib.Core.Path.{_≡_};
 ghost use Rattle.chooser.specs.Counts.{Fullest};
@@ -8,6 +7,7 @@ use crate::counts::fullest;
 use crate::counts::total;
 use crate::question::Question;
 
+// Names a block with the most dead pages. Which of several it names is left open.
 #[derive(Clone, Copy)]
 pub struct Greedy;
 

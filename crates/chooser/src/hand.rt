@@ -1,4 +1,3 @@
-// Goes upwards and round, so that every block has its turn, and names the first that has at least the average.
 ghost use mathlib.Core.Bool.{true};
 ghost use mathlib.Core.Path.{_≡_};
 ghost use Prim.Native.Nat.{_<_};
@@ -11,6 +10,7 @@ use crate::chooser::Chooser;
 use crate::counts::total;
 use crate::question::Question;
 
+// Goes upwards and round, so that every block has its turn, and names the first that has at least the average.
 // `next` is the block after the last answer, 0 before the first.
 #[derive(Clone, Copy)]
 pub struct Hand {
@@ -18,6 +18,7 @@ pub struct Hand {
 }
 
 impl Hand {
+    // A hand that begins at block 0.
     pub fn new() -> Hand
         ensures { λ r. ⌜ r .next ≡ 0 ⌝ }
     {

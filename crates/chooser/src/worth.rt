@@ -13,6 +13,7 @@ pub fn block_to_empty<C: Chooser>(chooser: &mut C, question: Question<'_>) -> u1
     named(chooser, question)
 }
 
+// Stands apart from the public call, so that a change of that call is refused at the call itself.
 fn named<C: Chooser>(chooser: &mut C, question: Question<'_>) -> u16
     ensures law { λ r. ⌜ Answers (now (question .entry .dead)) (now (chooser .entry)) r (now (chooser .exit)) ⌝ }
     ensures worth { λ r. ⌜ (askable (now (question .entry .dead)) ≡ true → Worth (now (question .entry .dead)) r) ⌝ }

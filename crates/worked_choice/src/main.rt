@@ -15,7 +15,14 @@ fn show(rt: &impl Print, greedy: &mut Greedy, hand: &mut Hand, dead: &[u8]) -> i
 }
 
 fn main(rt: LibcRuntime) -> io::Result<()> {
-    let lists: [&[u8]; 6] = [&[3, 0, 7, 2], &[3, 0, 7, 2], &[3, 0, 7, 2], &[1, 4], &[1, 33], &[3, 0, 7, 2]];
+    let lists: [&[u8]; 6] = [
+        &[3, 0, 7, 2],
+        &[3, 0, 7, 2],
+        &[3, 0, 7, 2],
+        &[1, 4],
+        &[1, 33],
+        &[3, 0, 7, 2],
+    ];
     let mut greedy = Greedy;
     let mut hand = Hand::new();
     for dead in lists {
