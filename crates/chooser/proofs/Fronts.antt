@@ -18,6 +18,16 @@ module _ (p : ℕ → Bool) where
   leading-stops [] short = absurd (omega arith)
   leading-stops (x ∷ xs) short = stops-at (p x) x xs refl (leading-stops xs) short
 
+  -- and before that all elements pass
+  front-at : (passes : Bool) (x : ℕ) (xs : List ℕ) → p x ≡ passes → ((i : ℕ) → i < leading p xs → p (getD xs i 0) ≡ true) → (i : ℕ) → i < cond passes (1 + leading p xs) 0 → p (getD (x ∷ xs) i 0) ≡ true
+  front-at true x xs is rest zero there = is
+  front-at true x xs is rest (suc i) there = rest i (omega arith)
+  front-at false x xs is rest i there = absurd (omega arith)
+
+  pub leading-passes : (xs : List ℕ) (i : ℕ) → i < leading p xs → p (getD xs i 0) ≡ true
+  leading-passes [] i there = absurd (omega arith)
+  leading-passes (x ∷ xs) i there = front-at (p x) x xs refl (leading-passes xs) i there
+
   -- what follows does not matter to a front that ends within its list
   within-at : (passes : Bool) (x : ℕ) (xs ys : List ℕ) → (leading p xs < length xs → leading p (xs ++ ys) ≡ leading p xs) → cond passes (1 + leading p xs) 0 < length (x ∷ xs) → cond passes (1 + leading p (xs ++ ys)) 0 ≡ cond passes (1 + leading p xs) 0
   within-at true x xs ys rest short = ap (λ n. 1 + n) (rest (omega arith))
@@ -35,13 +45,3 @@ module _ (p : ℕ → Bool) where
   pub leading-through : (xs ys : List ℕ) → length xs ≤ leading p xs → leading p (xs ++ ys) ≡ length xs + leading p ys
   leading-through [] ys long = omega arith
   leading-through (x ∷ xs) ys long = through-at (p x) x xs ys (leading-through xs ys) long
-
-  -- and every element passes
-  all-at : (passes : Bool) (x : ℕ) (xs : List ℕ) → p x ≡ passes → (length xs ≤ leading p xs → (i : ℕ) → i < length xs → p (getD xs i 0) ≡ true) → length (x ∷ xs) ≤ cond passes (1 + leading p xs) 0 → (i : ℕ) → i < length (x ∷ xs) → p (getD (x ∷ xs) i 0) ≡ true
-  all-at true x xs is rest long zero there = is
-  all-at true x xs is rest long (suc i) there = rest (omega arith) i (omega arith)
-  all-at false x xs is rest long i there = absurd (omega arith)
-
-  pub leading-all : (xs : List ℕ) → length xs ≤ leading p xs → (i : ℕ) → i < length xs → p (getD xs i 0) ≡ true
-  leading-all [] long i there = absurd (omega arith)
-  leading-all (x ∷ xs) long i there = all-at (p x) x xs refl (leading-all xs) long i there

@@ -15,7 +15,7 @@ use Rattle.std.proofs.shelf.Sums.{sumBy-le}
 use Rattle.std.proofs.shelf.Tests.{cases-lt}
 use Rattle.chooser.specs.Counts.{below-average, next-from}
 use Rattle.chooser.specs.Law.{Yields}
-use Rattle.chooser.proofs.Fronts.{leading-all, leading-stops}
+use Rattle.chooser.proofs.Fronts.{leading-passes, leading-stops}
 
 module _ (dead : List ℕ) where
   -- not all counts can lie below the average
@@ -29,8 +29,8 @@ module _ (dead : List ℕ) where
   pub some-reaches : 1 ≤ length dead → next-from dead 0 < length dead
   some-reaches some =
       ⊎-elim (λ short. short)
-      (λ long. let all = leading-all (below-average dead) dead (omega arith) in
-      absurd (not-all-below some (λ block there. ltb-true (getD dead block 0 * length dead) (sum dead) (all block there))))
+      (λ long. absurd (not-all-below some (λ block there.
+      ltb-true (getD dead block 0 * length dead) (sum dead) (leading-passes (below-average dead) dead block (omega arith)))))
       (cases-lt (next-from dead 0) (length dead))
 
   -- the block that a search upwards ends at yields

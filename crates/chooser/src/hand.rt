@@ -2,7 +2,7 @@ ghost use mathlib.Core.Bool.{true};
 ghost use mathlib.Core.Path.{_≡_};
 ghost use Prim.Native.Nat.{_<_};
 ghost use lib.ListN.{length};
-ghost use Rattle.chooser.specs.Hand.{first-round, hand-names, hand-stands};
+ghost use Rattle.chooser.specs.Hand.{Passes, first-round, hand-from, hand-names, hand-stands};
 ghost use Rattle.chooser.specs.Law.{Answers, Yields, askable};
 ghost use Rattle.std.specs.shelf.Lists.{sum as all-dead};
 use crate::average::first_from;
@@ -30,6 +30,7 @@ pub impl Chooser for Hand as HandChooser {
     fn choose(&mut self, question: Question<'_>) -> u16
         ensures law { λ r. ⌜ Answers (now (question .entry .dead)) (now (self .entry)) r (now (self .exit)) ⌝ }
         ensures block { λ r. ⌜ r ≡ hand-names (now (question .entry .dead)) (now (self .entry) .next) ⌝ }
+        ensures passes { λ _. ⌜ (askable (now (question .entry .dead)) ≡ true → Passes (now (question .entry .dead)) (hand-from (now (question .entry .dead)) (now (self .entry) .next))) ⌝ }
         ensures stands { λ r. ⌜ now (self .exit) .next ≡ hand-stands (now (question .entry .dead)) (now (self .entry) .next) ⌝ }
     {
         let dead = question.dead;
@@ -50,6 +51,7 @@ fn first_round(dead: &[u8], from: usize, sum: u16) -> usize
     requires there { ⌜ from < length (now dead) ⌝ }
     requires summed { ⌜ sum ≡ all-dead (now dead) ⌝ }
     ensures block { λ r. ⌜ r ≡ first-round (now (dead .entry)) from ⌝ }
+    ensures passes { λ _. ⌜ Passes (now (dead .entry)) from ⌝ }
     ensures yields { λ r. ⌜ Yields (now (dead .entry)) r ⌝ }
 {
     match first_from(dead, from, sum) {
