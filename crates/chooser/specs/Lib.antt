@@ -1,1 +1,3 @@
 pub mod Law
+pub mod Counts
+pub mod Hand

@@ -1,0 +1,8 @@
+pub mod Askable
+pub mod Yield
+mod Tested
+mod Totals
+mod Fronts
+mod Search
+mod Reaching
+mod Round
