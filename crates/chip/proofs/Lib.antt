@@ -1,2 +1,4 @@
 pub mod Windows
 pub mod Slots
+pub mod Reading
+pub mod Writing

@@ -17,7 +17,10 @@ use Prim.Native.Nat.{ℕ, zero, suc, _+_, _-_, _*_, _/_, _%_, _<_, _≤_}
 use lib.Dec.{eqb, leb}
 use lib.ListN.{length, getD, set, take, drop, replicate}
 use Rattle.chip.specs.Meaning.{Page, free, spoiled, written, Meaning}
-use Rattle.chip.specs.Calls.{wiped}
+use Rattle.chip.specs.Calls.{wiped, data-of, in-front}
+use Rattle.chip.specs.declared.words.Refusal.{Refusal}
+use Rattle.std.specs.declared.result.Result.{Result}
+use Rattle.std.specs.declared.result.Result.the-variants.{Ok, Err}
 
 abbrev pub wide : ℕ → ℕ
 wide size = 16 + size
@@ -59,6 +62,11 @@ is-written size slot = cond (eqb (getD slot 0 0) 1) (leb (two slot 1) size) fals
 unfoldable pub page-of : ℕ → List ℕ → Page
 page-of size slot =
     cond (all-ones slot) free (cond (is-written size slot) (written (two slot 3) (take (two slot 1) (drop 16 slot))) spoiled)
+
+-- what a fetch from a page leaves in the caller's buffer
+abbrev pub fetched-onto : Page → Result (ℕ × ℕ) Refusal → List ℕ → List ℕ
+fetched-onto x (Ok told) buffer = in-front (data-of x) buffer
+fetched-onto x (Err e) buffer = buffer
 
 -- ---- memory
 

@@ -1,5 +1,6 @@
 // Flash chips behind one meaning: a list of pages and an allowance of page writes that may still fail.
 mod chip;
+mod slot;
 mod words;
 
 pub use chip::Chip;
