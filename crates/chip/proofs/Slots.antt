@@ -11,6 +11,7 @@ use lib.Dec.{eqb, leb}
 use lib.ListN.{length, getD, set, take, drop, replicate}
 use Rattle.std.proofs.shelf.Lists.{length-append, length-take, length-drop, length-replicate, length-set, getD-replicate, getD-append-left, getD-append-right, getD-take, getD-drop, getD-set-same, getD-set-other, take-at, take-replicate, drop-replicate, take-all, drop-at, drop-drop, ext-getD, same-lists, places}
 use Rattle.std.proofs.shelf.Tests.{cases-eq, cases-lt, le-leb}
+use Rattle.chip.specs.Shaping.{length-pages}
 use Rattle.chip.proofs.Windows.{length-patched, byte-outside, window-below, window-above, window-inside}
 use Rattle.chip.specs.Meaning.{Page, free, spoiled, written}
 use Rattle.chip.specs.Calls.{wiped}
@@ -41,10 +42,6 @@ length-slot size label d fits = simp (length-append, length-replicate) (omega ar
 
 -- ---- slots in memory
 
-pub length-pages : (n size : ℕ) (m : List ℕ) → length (pages-of n size m) ≡ n
-length-pages zero size m = refl
-length-pages (suc n) size m = ap suc (length-pages n size (drop (wide size) m))
-
 -- one slot further on
 next-slot : (q w : ℕ) → w + q * w ≡ suc q * w
 next-slot q w = add-comm w (q * w) ∙ sym (suc-mul q w)
@@ -66,24 +63,27 @@ same-pages n size m ps long each =
 
 -- ---- one slot is touched
 
+pub slot-inside : (n size q : ℕ) (m : List ℕ) → length m ≡ n * wide size → q < n → q * wide size + wide size ≤ length m
+slot-inside n size q m long here = omega (arith, next-slot q (wide size), mul-le-mul-right {m = suc q} {n = n} (wide size) here)
+
 module _ (n size q : ℕ) (slot m : List ℕ) (long : length m ≡ n * wide size) (here : q < n) (full : length slot ≡ wide size) where
-  pub slot-inside : q * wide size + wide size ≤ length m
-  slot-inside = omega (arith, next-slot q (wide size), mul-le-mul-right {m = suc q} {n = n} (wide size) here)
+  inside : q * wide size + wide size ≤ length m
+  inside = slot-inside n size q m long here
 
   same-slot : slot-at size q (with-slot size q slot m) ≡ slot
   same-slot =
       ap (λ j. take (wide size) (drop j (with-slot size q slot m))) (sym (add-zero (q * wide size)))
-      ∙ window-inside m slot (q * wide size) (wide size) slot-inside full 0 (wide size) (omega arith)
+      ∙ window-inside m slot (q * wide size) (wide size) inside full 0 (wide size) (omega arith)
       ∙ take-all (wide size) slot (omega arith)
 
   other-slot : (k : ℕ) → (k ≡ q → ⊥) → slot-at size k (with-slot size q slot m) ≡ slot-at size k m
   other-slot k apart =
       elim (cases-lt k q) [
         | inl below ↦
-            window-below m slot (q * wide size) (wide size) slot-inside full (k * wide size) (wide size)
+            window-below m slot (q * wide size) (wide size) inside full (k * wide size) (wide size)
             (omega (arith, next-slot k (wide size), mul-le-mul-right {m = suc k} {n = q} (wide size) below))
         | inr above ↦
-            window-above m slot (q * wide size) (wide size) slot-inside full (k * wide size) (wide size)
+            window-above m slot (q * wide size) (wide size) inside full (k * wide size) (wide size)
             (omega (arith, next-slot q (wide size), mul-le-mul-right {m = suc q} {n = k} (wide size) (omega arith)))
       ]
 
@@ -105,7 +105,7 @@ module _ (n size q : ℕ) (slot m : List ℕ) (long : length m ≡ n * wide size
   pub bytes-outside : (k : ℕ)
       → (k < q * wide size → getD (with-slot size q slot m) k 0 ≡ getD m k 0)
       × (q * wide size + wide size ≤ k → getD (with-slot size q slot m) k 0 ≡ getD m k 0)
-  bytes-outside k = byte-outside m slot (q * wide size) (wide size) slot-inside full k 0
+  bytes-outside k = byte-outside m slot (q * wide size) (wide size) inside full k 0
 
 -- ---- one block is erased
 

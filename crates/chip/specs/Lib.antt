@@ -1,3 +1,5 @@
 pub mod Meaning
 pub mod Calls
 pub mod Slot
+pub mod Makes
+pub mod Shaping

@@ -8,15 +8,20 @@
 -- page-of      the page that a slot means
 -- slot-at      the slot of a page's number; `with-slot` memory in which that slot alone is another
 -- blank-block  memory in which the slots of one block are erased
+-- slot-written memory after a call that was to write a slot; `block-erased` after an erase
 -- pages-of     the pages that memory means: its slots, one by one
+-- laid         what memory means as a chip of some size
+-- fits         sizes that a chip may have, and memory of just that length
+-- Sized        sizes in range, or zeros
+-- made         what a chip that is made of memory means
 -- Layout       the laws that tie the two directions
-use mathlib.Core.Bool.{Bool, true, false, cond}
+use mathlib.Core.Bool.{Bool, true, false, cond, _&&_}
 use mathlib.Core.List.{List, [], _∷_, _++_}
 use mathlib.Core.Path.{_≡_}
 use Prim.Native.Nat.{ℕ, zero, suc, _+_, _-_, _*_, _/_, _%_, _<_, _≤_}
-use lib.Dec.{eqb, leb}
+use lib.Dec.{eqb, leb, ltb}
 use lib.ListN.{length, getD, set, take, drop, replicate}
-use Rattle.chip.specs.Meaning.{Page, free, spoiled, written, Meaning}
+use Rattle.chip.specs.Meaning.{Page, free, spoiled, written, Meaning, nothing}
 use Rattle.chip.specs.Calls.{wiped, data-of, in-front}
 use Rattle.chip.specs.declared.words.Refusal.{Refusal}
 use Rattle.std.specs.declared.result.Result.{Result}
@@ -85,10 +90,43 @@ abbrev pub pages-of : ℕ → ℕ → List ℕ → List Page
 pages-of zero size memory = []
 pages-of (suc n) size memory = page-of size (take (wide size) memory) ∷ pages-of n size (drop (wide size) memory)
 
+-- memory after a call that wrote a slot or erased a block, or was refused
+abbrev pub slot-written : ℕ → ℕ → List ℕ → {T : Type 0} → Result T Refusal → List ℕ → List ℕ
+slot-written size q slot (Ok told) memory = with-slot size q slot memory
+slot-written size q slot (Err e) memory = memory
+
+abbrev pub block-erased : ℕ → ℕ → ℕ → Result (Unit {0}) Refusal → List ℕ → List ℕ
+block-erased size per-block b (Ok told) memory = blank-block size per-block b memory
+block-erased size per-block b (Err e) memory = memory
+
 -- what memory of some size means
 abbrev pub laid : ℕ → ℕ → ℕ → ℕ → List ℕ → Meaning
 laid n per-block size left memory =
     record { blocks = n; per-block = per-block; page-size = size; allowance = left; pages = pages-of (n * per-block) size memory }
+
+-- ---- sizes
+
+-- sizes that a chip may have
+abbrev pub in-range : ℕ → ℕ → ℕ → Bool
+in-range n per-block size = (ltb 0 n && leb n 64) && ((ltb 1 per-block && leb per-block 32) && (ltb 0 size && leb size 512))
+
+-- how many bytes such a chip takes
+abbrev pub taken : ℕ → ℕ → ℕ → ℕ
+taken n per-block size = n * per-block * wide size
+
+abbrev pub fits : ℕ → ℕ → ℕ → ℕ → Bool
+fits n per-block size long = in-range n per-block size && eqb (taken n per-block size) long
+
+-- sizes in range, or zeros
+abbrev pub Sized : ℕ → ℕ → ℕ → Type 0
+Sized n per-block size =
+    (n ≤ 64) × (per-block ≤ 32) × (size ≤ 512)
+    × (0 < n → (2 ≤ per-block) × (1 ≤ size))
+    × (n ≡ 0 → (per-block ≡ 0) × (size ≡ 0))
+
+-- what a chip that is made of memory means: nothing, unless the sizes are in range and the memory is as long as they ask
+abbrev pub made : ℕ → ℕ → ℕ → ℕ → List ℕ → Meaning
+made n per-block size left memory = cond (fits n per-block size (length memory)) (laid n per-block size left memory) nothing
 
 -- ---- the laws
 

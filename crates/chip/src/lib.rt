@@ -1,9 +1,13 @@
 // Flash chips behind one meaning: a list of pages and an allowance of page writes that may still fail.
 mod chip;
+mod plain;
+mod size;
 mod slot;
 mod words;
 
 pub use chip::Chip;
+pub use plain::Plain;
+pub use plain::PlainChip;
 pub use words::Kind;
 pub use words::Refusal;
 pub use words::Shape;

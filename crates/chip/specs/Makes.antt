@@ -1,0 +1,68 @@
+-- What the makes of chips mean, by the bytes of their memory.
+--
+-- means-of       what memory means to a chip of some size, with so many failures left
+-- plain-means    what a plain chip means: its memory, and no failure
+-- Never-fails    a program that was accepted was good
+-- Placed         where the slot of a page lies; `Opened` the same of a page that may be programmed
+-- Bounded        where the slots of a block lie
+use mathlib.Core.Bool.{Bool, true, cond}
+use mathlib.Core.List.{List}
+use mathlib.Core.Path.{_≡_}
+use Prim.Native.Nat.{ℕ, _+_, _*_, _<_, _≤_}
+use denote.Ref.{now}
+use lib.Dec.{eqb, ltb}
+use lib.ListN.{length}
+use Rattle.std.specs.declared.option.Option.the-variants.{Some, None}
+use Rattle.std.specs.declared.result.Result.{Result}
+use Rattle.std.specs.declared.result.Result.the-variants.{Ok, Err}
+use Rattle.chip.specs.declared.plain.Plain.{Plain}
+use Rattle.chip.specs.declared.size.Size.{Size}
+use Rattle.chip.specs.declared.words.Refusal.{Refusal}
+use Rattle.chip.specs.declared.words.Refusal.the-variants.{NotThere}
+use Rattle.chip.specs.Meaning.{Meaning, nothing}
+use Rattle.chip.specs.Calls.{asks-program}
+use Rattle.chip.specs.Slot.{wide, laid}
+
+-- a chip without pages has no failure left
+abbrev pub left-of : ℕ → ℕ → ℕ
+left-of n left = cond (ltb 0 n) left 0
+
+abbrev pub means-of : Size → ℕ → List ℕ → Meaning
+means-of s left memory =
+    cond (eqb (length memory) (s .bytes)) (laid (s .blocks) (s .«pages_per_block») (s .«page_size») (left-of (s .blocks) left) memory) nothing
+
+-- ---- plain
+
+abbrev pub plain-means : Plain → Meaning
+plain-means c = means-of (c .size) 0 (now (c .memory))
+
+abbrev pub Never-fails : Result Bool Refusal → Type 0
+Never-fails (Ok good) = good ≡ true
+Never-fails (Err e) = Unit {0}
+
+-- the slot of a page begins at some byte, and lies in memory of the right length
+pub record Within (s : Size) (long q at : ℕ) : Type 0 where
+  pub whole : long ≡ s .bytes
+  pub there : q < s .blocks * s .«pages_per_block»
+  pub begins : at ≡ q * wide (s .«page_size»)
+  pub ends : at + wide (s .«page_size») ≤ long
+
+abbrev pub Placed : Plain → ℕ → Result ℕ Refusal → Type 0
+Placed p q (Ok at) = Within (p .size) (length (now (p .memory))) q at
+Placed p q (Err e) = (e ≡ NotThere) × (length (plain-means p .pages) ≤ q)
+
+abbrev pub Opened : Plain → ℕ → ℕ → Result ℕ Refusal → Type 0
+Opened p q long (Ok at) = (asks-program (plain-means p) q long ≡ None) × Within (p .size) (length (now (p .memory))) q at × (long ≤ p .size .«page_size»)
+Opened p q long (Err e) = asks-program (plain-means p) q long ≡ Some e
+
+-- the slots of a block lie between two bytes
+pub record Block-within (s : Size) (long b from to : ℕ) : Type 0 where
+  pub whole : long ≡ s .bytes
+  pub there : b < s .blocks
+  pub begins : from ≡ b * s .«pages_per_block» * wide (s .«page_size»)
+  pub wide-block : to ≡ from + s .«pages_per_block» * wide (s .«page_size»)
+  pub ends : to ≤ long
+
+abbrev pub Bounded : Plain → ℕ → Result (ℕ × ℕ) Refusal → Type 0
+Bounded p b (Ok found) = Block-within (p .size) (length (now (p .memory))) b (found .0) (found .1)
+Bounded p b (Err e) = (e ≡ NotThere) × (plain-means p .blocks ≤ b)
