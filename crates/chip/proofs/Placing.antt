@@ -160,6 +160,10 @@ put-slot size q at w left new memory e f g =
     let h : (at + w) - at ≡ wide size = omega arith in
     rw (g, h, e) (ap (λ z. take (q * wide size) memory ++ (new ++ z)) (drop-drop (wide size) (q * wide size) memory))
 
+-- a slot is as long as it should be
+pub length-slot-at : (size at w : ℕ) (memory : List ℕ) → at + wide size ≤ length memory → w ≡ wide size → length (take ((at + w) - at) (drop at memory)) ≡ wide size
+length-slot-at size at w memory inside e = let g : (at + w) - at ≡ wide size = omega arith in rw g (simp (length-take, length-drop) (omega arith))
+
 -- a block that is erased where it lies
 pub put-block : (size per b from to : ℕ) (left memory : List ℕ) → from ≡ b * per * wide size → to ≡ from + per * wide size → to ≤ length memory
     → left ≡ replicate (length (take (to - from) (drop from memory))) 255 → putMid from (to - from) memory left ≡ blank-block size per b memory

@@ -3,3 +3,4 @@ pub mod Calls
 pub mod Slot
 pub mod Makes
 pub mod Shaping
+pub mod Gaps

@@ -14,10 +14,11 @@ use lib.Dec.{eqb}
 use lib.ListN.{length, drop}
 use Rattle.std.proofs.shelf.Tests.{cases-eq, cases-lt, eq-eqb, ne-eqb, lt-ltb, cond-true, cond-false}
 use Rattle.chip.specs.declared.plain.Plain.{Plain}
+use Rattle.chip.specs.declared.flawed.Flawed.{Flawed}
 use Rattle.chip.specs.declared.size.Size.{Size}
 use Rattle.chip.specs.Meaning.{Meaning, nothing, In-range, Shaped}
 use Rattle.chip.specs.Slot.{wide, laid, pages-of}
-use Rattle.chip.specs.Makes.{left-of, means-of, plain-means}
+use Rattle.chip.specs.Makes.{left-of, means-of, plain-means, flawed-means}
 
 pub length-pages : (n size : ℕ) (m : List ℕ) → length (pages-of n size m) ≡ n
 length-pages zero size m = refl
@@ -73,3 +74,6 @@ module _ (s : Size) (left : ℕ) (memory : List ℕ) where
 
 pub plain-shaped : (c : Plain) → Shaped (plain-means c)
 plain-shaped c = means-shaped (c .size) 0 (now (c .memory)) (omega arith)
+
+pub flawed-shaped : (c : Flawed) → Shaped (flawed-means c)
+flawed-shaped c = let few = c .gaps .few in means-shaped (c .plain .size) (c .gaps .left) (now (c .plain .memory)) (omega arith)

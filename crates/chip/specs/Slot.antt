@@ -8,7 +8,7 @@
 -- page-of      the page that a slot means
 -- slot-at      the slot of a page's number; `with-slot` memory in which that slot alone is another
 -- blank-block  memory in which the slots of one block are erased
--- slot-written memory after a call that was to write a slot; `block-erased` after an erase
+-- programmed-bytes   memory after a program, by what it answered; `block-erased` after an erase
 -- pages-of     the pages that memory means: its slots, one by one
 -- laid         what memory means as a chip of some size
 -- fits         sizes that a chip may have, and memory of just that length
@@ -90,10 +90,11 @@ abbrev pub pages-of : ℕ → ℕ → List ℕ → List Page
 pages-of zero size memory = []
 pages-of (suc n) size memory = page-of size (take (wide size) memory) ∷ pages-of n size (drop (wide size) memory)
 
--- memory after a call that wrote a slot or erased a block, or was refused
-abbrev pub slot-written : ℕ → ℕ → List ℕ → {T : Type 0} → Result T Refusal → List ℕ → List ℕ
-slot-written size q slot (Ok told) memory = with-slot size q slot memory
-slot-written size q slot (Err e) memory = memory
+-- memory after a program or an erase, by what it answered
+abbrev pub programmed-bytes : ℕ → ℕ → ℕ → List ℕ → Result Bool Refusal → List ℕ → List ℕ
+programmed-bytes size q label d (Ok true) memory = with-slot size q (slot-of size label d) memory
+programmed-bytes size q label d (Ok false) memory = with-slot size q (failed-slot size) memory
+programmed-bytes size q label d (Err e) memory = memory
 
 abbrev pub block-erased : ℕ → ℕ → ℕ → Result (Unit {0}) Refusal → List ℕ → List ℕ
 block-erased size per-block b (Ok told) memory = blank-block size per-block b memory

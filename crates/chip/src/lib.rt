@@ -1,11 +1,15 @@
 // Flash chips behind one meaning: a list of pages and an allowance of page writes that may still fail.
 mod chip;
+mod flawed;
+mod gaps;
 mod plain;
 mod size;
 mod slot;
 mod words;
 
 pub use chip::Chip;
+pub use flawed::Flawed;
+pub use flawed::FlawedChip;
 pub use plain::Plain;
 pub use plain::PlainChip;
 pub use words::Kind;

@@ -7,8 +7,8 @@ ghost use Rattle.std.specs.declared.result.Result.the-variants.{Ok, Err};
 ghost use Rattle.chip.specs.declared.words.Refusal.the-variants.{NotThere};
 ghost use Rattle.chip.specs.Meaning.{Meaning, Shaped};
 ghost use Rattle.chip.specs.Calls.{shape-of, kind-told, Programmed, fetched, fetched-into, erase-told, erased, asks-program};
-ghost use Rattle.chip.specs.Slot.{wide, slot-of, slot-written, block-erased, made, Layout};
-ghost use Rattle.chip.specs.Makes.{plain-means, Never-fails, Placed, Opened, Bounded};
+ghost use Rattle.chip.specs.Slot.{wide, slot-of, failed-slot, programmed-bytes, block-erased, made, Layout};
+ghost use Rattle.chip.specs.Makes.{plain-means, Never-fails, Placed, Opened, Bounded, Put, Wiped};
 ghost use Rattle.chip.specs.Shaping.{plain-shaped};
 use crate::chip::Chip;
 use crate::plain::Plain;
@@ -47,7 +47,21 @@ impl<'a> Plain<'a> {
         Ok(page as usize * self.wide())
     }
 
-    fn look(&self, page: u16) -> Result<Kind, Refusal>
+    pub(crate) fn told(&self) -> Shape
+        ensures { λ r. ⌜ r ≡ shape-of (plain-means (now (self .entry))) ⌝ }
+    {
+        if self.memory.len() != self.size.bytes {
+            return Shape { blocks: 0, pages_per_block: 0, page_size: 0, allowance: 0 };
+        }
+        Shape {
+            blocks: self.size.blocks,
+            pages_per_block: self.size.pages_per_block,
+            page_size: self.size.page_size,
+            allowance: 0,
+        }
+    }
+
+    pub(crate) fn look(&self, page: u16) -> Result<Kind, Refusal>
         ensures { λ r. ⌜ r ≡ kind-told (plain-means (now (self .entry))) page ⌝ }
     {
         let at = self.place(page)?;
@@ -55,7 +69,7 @@ impl<'a> Plain<'a> {
         Ok(slot::kind(&self.memory[at..end], self.size.page_size as usize))
     }
 
-    fn read(&self, page: u16, buffer: &mut [u8]) -> Result<(u16, usize), Refusal>
+    pub(crate) fn read(&self, page: u16, buffer: &mut [u8]) -> Result<(u16, usize), Refusal>
         ensures value { λ r. ⌜ r ≡ fetched (plain-means (now (self .entry))) page (length (now (buffer .entry))) ⌝ }
         ensures buffer { λ r. ⌜ now (buffer .exit) ≡ fetched-into (plain-means (now (self .entry))) page r (now (buffer .entry)) ⌝ }
     {
@@ -90,6 +104,35 @@ impl<'a> Plain<'a> {
         let wide = self.wide();
         let from = block as usize * pages * wide;
         Ok((from, from + pages * wide))
+    }
+
+    // A program that is good, whatever make of chip this memory is part of.
+    pub(crate) fn put(&mut self, page: u16, label: u16, bytes: &[u8]) -> Result<(), Refusal>
+        ensures { λ r. ⌜ Put (now (self .entry)) page (length (now (bytes .entry))) (slot-of (now (self .entry) .size .«page_size») label (now (bytes .entry))) r (now (self .exit)) ⌝ }
+    {
+        let at = self.open(page, bytes.len())?;
+        let end = at + self.wide();
+        let size = self.size.page_size as usize;
+        slot::write(&mut self.memory[at..end], size, label, bytes);
+        Ok(())
+    }
+
+    // A program of so many bytes that fails.
+    pub(crate) fn spoil(&mut self, page: u16, long: usize) -> Result<(), Refusal>
+        ensures { λ r. ⌜ Put (now (self .entry)) page long (failed-slot (now (self .entry) .size .«page_size»)) r (now (self .exit)) ⌝ }
+    {
+        let at = self.open(page, long)?;
+        let end = at + self.wide();
+        slot::fail(&mut self.memory[at..end]);
+        Ok(())
+    }
+
+    pub(crate) fn wipe(&mut self, block: u16) -> Result<(), Refusal>
+        ensures { λ r. ⌜ Wiped (now (self .entry)) block r (now (self .exit)) ⌝ }
+    {
+        let (from, to) = self.block(block)?;
+        slot::erase(&mut self.memory[from..to]);
+        Ok(())
     }
 }
 
@@ -130,12 +173,9 @@ pub impl<'a> Chip for Plain<'a> as PlainChip {
     fn program(&mut self, page: u16, label: u16, bytes: &[u8]) -> Result<bool, Refusal>
         ensures effect { λ r. ⌜ Programmed (plain-means (now (self .entry))) page label (now (bytes .entry)) r (plain-means (now (self .exit))) ⌝ }
         ensures good { λ r. ⌜ Never-fails r ⌝ }
-        ensures bytes { λ r. ⌜ now (now (self .exit) .memory) ≡ slot-written (now (self .entry) .size .«page_size») page (slot-of (now (self .entry) .size .«page_size») label (now (bytes .entry))) r (now (now (self .entry) .memory)) ⌝ }
+        ensures bytes { λ r. ⌜ now (now (self .exit) .memory) ≡ programmed-bytes (now (self .entry) .size .«page_size») page label (now (bytes .entry)) r (now (now (self .entry) .memory)) ⌝ }
     {
-        let at = self.open(page, bytes.len())?;
-        let end = at + self.wide();
-        let size = self.size.page_size as usize;
-        slot::write(&mut self.memory[at..end], size, label, bytes);
+        self.put(page, label, bytes)?;
         Ok(true)
     }
 
@@ -153,8 +193,6 @@ pub impl<'a> Chip for Plain<'a> as PlainChip {
         ensures after { λ _. ⌜ plain-means (now (self .exit)) ≡ erased (plain-means (now (self .entry))) block ⌝ }
         ensures bytes { λ r. ⌜ now (now (self .exit) .memory) ≡ block-erased (now (self .entry) .size .«page_size») (now (self .entry) .size .«pages_per_block») block r (now (now (self .entry) .memory)) ⌝ }
     {
-        let (from, to) = self.block(block)?;
-        slot::erase(&mut self.memory[from..to]);
-        Ok(())
+        self.wipe(block)
     }
 }
