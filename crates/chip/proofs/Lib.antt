@@ -6,3 +6,4 @@ pub mod Placing
 pub mod Touching
 pub mod Making
 pub mod Wearing
+pub mod Flawing

@@ -15,7 +15,6 @@ use Rattle.chip.specs.Gaps.{strikes, worn, verdicts, worn-by, gaps-left, Gap-l
 -- ---- one program
 
 module _ (table : List ℕ) (left : ℕ) (long : length table ≡ 8) (few : left ≤ 8) where
-
   abbrev counts : ℕ
   counts = getD table (8 - left) 0
 

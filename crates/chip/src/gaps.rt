@@ -30,7 +30,10 @@ impl Gaps {
         ensures left { λ r. ⌜ r .left ≡ 0 ⌝ }
         ensures gaps { λ r. ⌜ gaps-left (r .table) (r .left) ≡ [] ⌝ }
     {
-        Gaps { table: [0; 8], left: 0 }
+        Gaps {
+            table: [0; 8],
+            left: 0,
+        }
     }
 
     pub(crate) fn new(gaps: &[u16]) -> Option<Gaps>

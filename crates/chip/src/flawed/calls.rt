@@ -18,7 +18,13 @@ use crate::words::Shape;
 impl<'a> Flawed<'a> {
     // A chip over this memory, which stays as it is. A gap g lets g - 1 accepted programs pass and fails the next;
     // then the next gap counts.
-    pub fn new(memory: &'a mut [u8], blocks: u16, pages_per_block: u16, page_size: u16, gaps: &[u16]) -> Flawed<'a>
+    pub fn new(
+        memory: &'a mut [u8],
+        blocks: u16,
+        pages_per_block: u16,
+        page_size: u16,
+        gaps: &[u16],
+    ) -> Flawed<'a>
         ensures means { λ r. ⌜ flawed-means r ≡ made-flawed blocks «pages_per_block» «page_size» (now (gaps .entry)) (now (memory .entry)) ⌝ }
         ensures gaps { λ r. ⌜ gaps-of r ≡ cond (good-gaps (now (gaps .entry))) (now (gaps .entry)) [] ⌝ }
         ensures bytes { λ r. ⌜ now (r .plain .memory) ≡ now (memory .entry) ⌝ }
@@ -26,8 +32,14 @@ impl<'a> Flawed<'a> {
         ensures law { λ _. ⌜ Gap-law ⌝ }
     {
         match Gaps::new(gaps) {
-            Some(gaps) => Flawed { plain: Plain::new(memory, blocks, pages_per_block, page_size), gaps },
-            None => Flawed { plain: Plain::new(memory, 0, 0, 0), gaps: Gaps::none() },
+            Some(gaps) => Flawed {
+                plain: Plain::new(memory, blocks, pages_per_block, page_size),
+                gaps,
+            },
+            None => Flawed {
+                plain: Plain::new(memory, 0, 0, 0),
+                gaps: Gaps::none(),
+            },
         }
     }
 }
@@ -43,9 +55,19 @@ pub impl<'a> Chip for Flawed<'a> as FlawedChip {
         ensures gaps { λ _. ⌜ gaps-of (now (self .exit)) ≡ gaps-of (now (self .entry)) ⌝ }
         ensures bytes { λ _. ⌜ now (now (self .exit) .plain .memory) ≡ now (now (self .entry) .plain .memory) ⌝ }
     {
-        let Shape { blocks, pages_per_block, page_size, .. } = self.plain.told();
+        let Shape {
+            blocks,
+            pages_per_block,
+            page_size,
+            ..
+        } = self.plain.told();
         let allowance = if blocks > 0 { self.gaps.left as u16 } else { 0 };
-        Shape { blocks, pages_per_block, page_size, allowance }
+        Shape {
+            blocks,
+            pages_per_block,
+            page_size,
+            allowance,
+        }
     }
 
     fn kind(&mut self, page: u16) -> Result<Kind, Refusal>

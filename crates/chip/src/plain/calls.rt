@@ -51,7 +51,12 @@ impl<'a> Plain<'a> {
         ensures { λ r. ⌜ r ≡ shape-of (plain-means (now (self .entry))) ⌝ }
     {
         if self.memory.len() != self.size.bytes {
-            return Shape { blocks: 0, pages_per_block: 0, page_size: 0, allowance: 0 };
+            return Shape {
+                blocks: 0,
+                pages_per_block: 0,
+                page_size: 0,
+                allowance: 0,
+            };
         }
         Shape {
             blocks: self.size.blocks,
