@@ -4,3 +4,5 @@ pub mod Slot
 pub mod Makes
 pub mod Shaping
 pub mod Gaps
+pub mod Pairs
+pub mod Fronts

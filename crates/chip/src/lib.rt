@@ -2,6 +2,7 @@
 mod chip;
 mod flawed;
 mod gaps;
+mod pair;
 mod plain;
 mod size;
 mod slot;
@@ -10,6 +11,8 @@ mod words;
 pub use chip::Chip;
 pub use flawed::Flawed;
 pub use flawed::FlawedChip;
+pub use pair::Pair;
+pub use pair::PairChip;
 pub use plain::Plain;
 pub use plain::PlainChip;
 pub use words::Kind;
