@@ -7,3 +7,5 @@ pub mod Touching
 pub mod Making
 pub mod Wearing
 pub mod Flawing
+pub mod Joining
+pub mod Blocks

@@ -29,7 +29,8 @@ fn fit(a: &Shape, b: &Shape) -> bool
     ensures { λ r. ⌜ r ≡ shapes-fit (now (a .entry)) (now (b .entry)) ⌝ }
 {
     (a.pages_per_block == b.pages_per_block && a.page_size == b.page_size)
-        && (a.blocks as u32 + b.blocks as u32 <= 64 && a.allowance as u32 + b.allowance as u32 <= 65535)
+        && (a.blocks as u32 + b.blocks as u32 <= 64
+            && a.allowance as u32 + b.allowance as u32 <= 65535)
 }
 
 impl<A: Chip, B: Chip> Pair<A, B> {
@@ -53,7 +54,10 @@ impl<A: Chip, B: Chip> Pair<A, B> {
         if !fit(&a, &b) {
             return None;
         }
-        Some(Front { blocks: a.blocks, pages: a.blocks * a.pages_per_block })
+        Some(Front {
+            blocks: a.blocks,
+            pages: a.blocks * a.pages_per_block,
+        })
     }
 }
 
@@ -71,7 +75,12 @@ pub impl<A: Chip, B: Chip> Chip for Pair<A, B> as PairChip {
         let a = self.first.shape();
         let b = self.second.shape();
         if !fit(&a, &b) {
-            return Shape { blocks: 0, pages_per_block: 0, page_size: 0, allowance: 0 };
+            return Shape {
+                blocks: 0,
+                pages_per_block: 0,
+                page_size: 0,
+                allowance: 0,
+            };
         }
         Shape {
             blocks: a.blocks + b.blocks,
