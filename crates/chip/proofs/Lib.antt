@@ -4,7 +4,6 @@ pub mod Reading
 pub mod Writing
 pub mod Placing
 pub mod Touching
-pub mod Making
 pub mod Wearing
 pub mod Flawing
 pub mod Joining

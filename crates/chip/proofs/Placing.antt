@@ -10,7 +10,7 @@ use borrow.Rule.Slice.PartMut.{putMid}
 use lib.Dec.{eqb, leb, ltb}
 use lib.ListN.{length, set, take, drop, replicate}
 use Rattle.std.proofs.shelf.Lists.{length-replicate, length-take, length-drop, drop-drop}
-use Rattle.std.proofs.shelf.Tests.{cases-eq, lt-ltb, le-ltb, le-leb, lt-leb, eq-eqb, ne-eqb, cond-true, cond-false}
+use Rattle.std.proofs.shelf.Tests.{cases-bool, lt-ltb, le-ltb, le-leb, lt-leb, eq-eqb, ne-eqb, cond-true, cond-false}
 use Rattle.std.specs.declared.option.Option.{Option}
 use Rattle.std.specs.declared.option.Option.the-variants.{Some, None}
 use Rattle.std.specs.declared.result.Result.{Result}
@@ -20,9 +20,9 @@ use Rattle.chip.specs.declared.words.Refusal.{Refusal}
 use Rattle.chip.specs.declared.words.Refusal.the-variants.{NotThere, WrongKind, TooLong}
 use Rattle.chip.specs.Meaning.{Page, free, spoiled, written, Meaning, nothing, page-at}
 use Rattle.chip.specs.Calls.{is-free, asks-program, with-page, with-block-free, kind-of, kind-told, erase-told, erased, fetched-page, fetched, fetched-into, in-front, data-of}
-use Rattle.chip.specs.Slot.{wide, all-ones, page-of, fetched-onto, slot-at, with-slot, blank-block, pages-of, laid}
-use Rattle.chip.specs.Makes.{left-of, means-of, Within, Block-within}
-use Rattle.chip.specs.Shaping.{length-pages, means-laid, means-nothing}
+use Rattle.chip.specs.Slot.{wide, all-ones, page-of, fetched-onto, slot-at, with-slot, blank-block, pages-of, fits, laid}
+use Rattle.chip.specs.Makes.{means-of, Whole, Within, Block-within}
+use Rattle.chip.specs.Shaping.{length-pages, fit, made-laid, made-nothing}
 use Rattle.chip.proofs.Windows.{length-patched}
 use Rattle.chip.proofs.Slots.{page-at-slot, slot-inside, block-inside, pages-with-slot, pages-with-block}
 
@@ -48,23 +48,32 @@ module _ (s : Size) (left : ℕ) (memory : List ℕ) where
   abbrev slot : ℕ → List ℕ
   slot q = slot-at size q memory
 
-  pub no-pages : (length memory ≡ s .bytes → ⊥) → (q : ℕ) → length (meant .pages) ≤ q
-  no-pages other q = omega (arith, ap (λ m. length (m .pages)) (means-nothing s left memory other))
+  abbrev good : Bool
+  good = fits (s .blocks) (s .«pages_per_block») size (length memory)
+
+  means-nothing : good ≡ false → meant ≡ nothing
+  means-nothing other = made-nothing (s .blocks) (s .«pages_per_block») size left memory other
+
+  pub no-pages : good ≡ false → (q : ℕ) → length (meant .pages) ≤ q
+  no-pages other q = omega (arith, ap (λ m. length (m .pages)) (means-nothing other))
 
   -- ---- memory of the right length
 
-  module _ (whole : length memory ≡ s .bytes) where
+  module _ (whole : Whole s (length memory)) where
+    pub means-laid : meant ≡ laid (s .blocks) (s .«pages_per_block») size left memory
+    means-laid = made-laid (s .blocks) (s .«pages_per_block») size left memory whole
+
     long : length memory ≡ count * wide size
-    long = whole ∙ s .long
+    long = sym (fit (s .blocks) (s .«pages_per_block») size (length memory) whole .long-is)
 
     pub length-meant : length (meant .pages) ≡ count
-    length-meant = ap (λ m. length (m .pages)) (means-laid s left memory whole) ∙ length-pages count size memory
+    length-meant = ap (λ m. length (m .pages)) means-laid ∙ length-pages count size memory
 
     pub page-meant : (q : ℕ) → q < count → page-at meant q ≡ page-of size (slot q)
-    page-meant q l = ap (λ m. page-at m q) (means-laid s left memory whole) ∙ page-at-slot count size q memory spoiled l
+    page-meant q l = ap (λ m. page-at m q) means-laid ∙ page-at-slot count size q memory spoiled l
 
     pub size-meant : meant .page-size ≡ size
-    size-meant = ap (λ m. m .page-size) (means-laid s left memory whole)
+    size-meant = ap (λ m. m .page-size) means-laid
 
     pub within : (q w : ℕ) → q < count → w ≡ wide size → Within s (length memory) q (q * w)
     within q w l e =
@@ -117,7 +126,7 @@ module _ (s : Size) (left : ℕ) (memory : List ℕ) where
 
     module _ (b : ℕ) (there : b < s .blocks) where
       found : ltb b (meant .blocks) ≡ true
-      found = lt-ltb b (meant .blocks) (omega (arith, ap (λ m. m .blocks) (means-laid s left memory whole)))
+      found = lt-ltb b (meant .blocks) (omega (arith, ap (λ m. m .blocks) means-laid))
 
       pub told-erase : Ok tt ≡ erase-told meant b
       told-erase = ap (λ t. cond t (Ok tt) (Err NotThere)) (sym found)
@@ -133,18 +142,18 @@ module _ (s : Size) (left : ℕ) (memory : List ℕ) where
 
   pub least-pages : (q : ℕ) → count ≤ q → length (meant .pages) ≤ q
   least-pages q l =
-      elim (cases-eq (length memory) (s .bytes)) [
+      elim (cases-bool good) [
         | inl whole ↦ omega (arith, length-meant whole, l)
         | inr other ↦ no-pages other q
       ]
 
-  pub no-blocks : (length memory ≡ s .bytes → ⊥) → (b : ℕ) → meant .blocks ≤ b
-  no-blocks other b = omega (arith, ap (λ m. m .blocks) (means-nothing s left memory other))
+  pub no-blocks : good ≡ false → (b : ℕ) → meant .blocks ≤ b
+  no-blocks other b = omega (arith, ap (λ m. m .blocks) (means-nothing other))
 
   pub least-blocks : (b : ℕ) → s .blocks ≤ b → meant .blocks ≤ b
   least-blocks b l =
-      elim (cases-eq (length memory) (s .bytes)) [
-        | inl whole ↦ omega (arith, ap (λ m. m .blocks) (means-laid s left memory whole), l)
+      elim (cases-bool good) [
+        | inl whole ↦ omega (arith, ap (λ m. m .blocks) (means-laid whole), l)
         | inr other ↦ no-blocks other b
       ]
 
@@ -173,11 +182,7 @@ put-block size per b from to left memory e f inside g =
     rw (g, h, e, l)
     (ap (λ z. take (b * per * wide size) memory ++ (replicate (per * wide size) 255 ++ z)) (drop-drop (per * wide size) (b * per * wide size) memory))
 
--- no failure is left, and a good program costs none
-pub none-left : (n : ℕ) → left-of n 0 ≡ left-of n 0 - 0
-none-left n = sym (sub-zero (left-of n 0))
-
-module _ (s : Size) (left : ℕ) (memory : List ℕ) (whole : length memory ≡ s .bytes) where
+module _ (s : Size) (left : ℕ) (memory : List ℕ) (whole : Whole s (length memory)) where
   abbrev n : ℕ
   n = s .blocks
 
@@ -191,21 +196,26 @@ module _ (s : Size) (left : ℕ) (memory : List ℕ) (whole : length memory ≡ 
   with-pages a ps = record { blocks = n; per-block = per; page-size = big; allowance = a; pages = ps }
 
   full : length memory ≡ n * per * wide big
-  full = whole ∙ s .long
+  full = sym (fit n per big (length memory) whole .long-is)
 
-  pub means-written : (q cost left′ : ℕ) (slot′ : List ℕ) → q < n * per → length slot′ ≡ wide big → left-of n left′ ≡ left-of n left - cost
+  -- memory of the same length fits as well
+  still : (new : List ℕ) → length new ≡ length memory → Whole s (length new)
+  still new e = ap (fits n per big) e ∙ whole
+
+  pub means-written : (q cost left′ : ℕ) (slot′ : List ℕ) → q < n * per → length slot′ ≡ wide big → left′ ≡ left - cost
       → means-of s left′ (with-slot big q slot′ memory) ≡ with-page (means-of s left memory) q (page-of big slot′) cost
   means-written q cost left′ slot′ there fills costs =
       means-laid s left′ (with-slot big q slot′ memory)
-      (length-patched memory slot′ (q * wide big) (wide big) (slot-inside (n * per) big q memory full there) fills ∙ whole)
-      ∙ ap (with-pages (left-of n left′)) (pages-with-slot (n * per) big q slot′ memory full there fills)
+      (still (with-slot big q slot′ memory) (length-patched memory slot′ (q * wide big) (wide big) (slot-inside (n * per) big q memory full there) fills))
+      ∙ ap (with-pages left′) (pages-with-slot (n * per) big q slot′ memory full there fills)
       ∙ ap (λ a. with-pages a (set (pages-of (n * per) big memory) q (page-of big slot′))) costs
       ∙ ap (λ m. with-page m q (page-of big slot′) cost) (sym (means-laid s left memory whole))
 
   pub means-erased : (b : ℕ) → b < n → means-of s left (blank-block big per b memory) ≡ with-block-free (means-of s left memory) b
   means-erased b there =
       means-laid s left (blank-block big per b memory)
+      (still (blank-block big per b memory)
       (length-patched memory (replicate (per * wide big) 255) (b * per * wide big) (per * wide big) (block-inside n per big b memory full there)
-      (length-replicate (per * wide big) 255) ∙ whole)
-      ∙ ap (with-pages (left-of n left)) (pages-with-block n per big b memory full there)
+      (length-replicate (per * wide big) 255)))
+      ∙ ap (with-pages left) (pages-with-block n per big b memory full there)
       ∙ ap (λ m. with-block-free m b) (sym (means-laid s left memory whole))

@@ -15,26 +15,24 @@ use Rattle.chip.specs.declared.words.Refusal.{Refusal}
 use Rattle.chip.specs.declared.words.Refusal.the-variants.{NotThere}
 use Rattle.chip.specs.Meaning.{Meaning, nothing}
 use Rattle.chip.specs.Calls.{with-page, with-block-free, erase-told, erased}
-use Rattle.chip.specs.Slot.{laid, page-of, with-slot, blank-block, block-erased}
-use Rattle.chip.specs.Makes.{left-of, means-of, plain-means, Touched, Blanked, Untouched, Wiped}
+use Rattle.chip.specs.Slot.{laid, fits, page-of, with-slot, blank-block, block-erased}
+use Rattle.chip.specs.Makes.{means-of, plain-means, Touched, Blanked, Untouched, Wiped}
 use Rattle.chip.proofs.Placing.{means-written, means-erased, told-erase, told-erased}
 
--- ---- the allowance alone depends on the failures that are left
+-- ---- what does not look at the allowance is the same whatever that is
 
-abbrev pub with-left : ℕ → Meaning → Meaning
-with-left left m = record { blocks = m .blocks; per-block = m .per-block; page-size = m .page-size; allowance = left-of (m .blocks) left; pages = m .pages }
+swap-when : {X : Type 0} (F : Meaning → X) (t : Bool) (x y : Meaning) → F x ≡ F y → F (cond t x nothing) ≡ F (cond t y nothing)
+swap-when F true x y e = e
+swap-when F false x y e = refl
 
-with-left-of : (t : Bool) (n per size left : ℕ) (memory : List ℕ)
-    → cond t (laid n per size (left-of n left) memory) nothing ≡ with-left left (cond t (laid n per size (left-of n 0) memory) nothing)
-with-left-of true n per size left memory = refl
-with-left-of false n per size left memory = refl
-
-pub means-with-left : (s : Size) (left : ℕ) (memory : List ℕ) → means-of s left memory ≡ with-left left (means-of s 0 memory)
-means-with-left s left memory = with-left-of (eqb (length memory) (s .bytes)) (s .blocks) (s .«pages_per_block») (s .«page_size») left memory
+pub swap-left : {X : Type 0} (F : Meaning → X) (s : Size) (left left′ : ℕ) (memory : List ℕ)
+    → F (laid (s .blocks) (s .«pages_per_block») (s .«page_size») left memory) ≡ F (laid (s .blocks) (s .«pages_per_block») (s .«page_size») left′ memory)
+    → F (means-of s left memory) ≡ F (means-of s left′ memory)
+swap-left F s left left′ memory e = swap-when F (fits (s .blocks) (s .«pages_per_block») (s .«page_size») (length memory)) _ _ e
 
 -- ---- what was touched
 
-pub touched-means : (left left′ cost : ℕ) (p p′ : Plain) (q : ℕ) (slot : List ℕ) → left-of (p .size .blocks) left′ ≡ left-of (p .size .blocks) left - cost
+pub touched-means : (left left′ cost : ℕ) (p p′ : Plain) (q : ℕ) (slot : List ℕ) → left′ ≡ left - cost
     → Touched p q slot p′
     → means-of (p′ .size) left′ (now (p′ .memory)) ≡ with-page (means-of (p .size) left (now (p .memory))) q (page-of (p .size .«page_size») slot) cost
 touched-means left left′ cost p p′ q slot costs t =
@@ -59,14 +57,14 @@ wiped-value left p p′ b (Ok done) t = told-erase (p .size) left (now (p .memor
 wiped-value left p p′ b (Err e) t =
     ap Err (t .0)
     ∙ sym (cond-false (ltb b (plain-means p .blocks)) (Ok tt) (Err NotThere) (le-ltb b (plain-means p .blocks) (t .1)))
-    ∙ ap (λ m. erase-told m b) (sym (means-with-left (p .size) left (now (p .memory))))
+    ∙ swap-left (λ m. erase-told m b) (p .size) 0 left (now (p .memory)) refl
 
 pub wiped-means : (left : ℕ) (p p′ : Plain) (b : ℕ) (r : Result (Unit {0}) Refusal) → Wiped p b r p′
     → means-of (p′ .size) left (now (p′ .memory)) ≡ erased (means-of (p .size) left (now (p .memory))) b
 wiped-means left p p′ b (Ok done) t = blanked-means left p p′ b t ∙ told-erased (p .size) left (now (p .memory)) (t .whole) b (t .there)
 wiped-means left p p′ b (Err e) t =
     let m = means-of (p .size) left (now (p .memory)) in
-    let none : ltb b (m .blocks) ≡ false = le-ltb b (m .blocks) (subst (λ n. n ≤ b) (sym (ap (λ z. z .blocks) (means-with-left (p .size) left (now (p .memory))))) (t .1)) in
+    let none : ltb b (m .blocks) ≡ false = le-ltb b (m .blocks) (subst (λ n. n ≤ b) (swap-left (λ z. z .blocks) (p .size) 0 left (now (p .memory)) refl) (t .1)) in
     untouched-means left p p′ (t .2) ∙ sym (cond-false (ltb b (m .blocks)) (with-block-free m b) m none)
 
 pub wiped-bytes : (p p′ : Plain) (b : ℕ) (r : Result (Unit {0}) Refusal) → Wiped p b r p′

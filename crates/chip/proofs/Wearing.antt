@@ -10,45 +10,41 @@ use lib.Dec.{leb, ltb}
 use lib.ListN.{length, getD, set, take, drop, replicate}
 use Rattle.std.proofs.shelf.Lists.{append-nil, length-drop, length-take-le, drop-at, drop-more, drop-all, drop-set}
 use Rattle.std.proofs.shelf.Tests.{le-leb, lt-leb, cond-true, cond-false}
-use Rattle.chip.specs.Gaps.{strikes, worn, verdicts, worn-by, gaps-left, Gap-law}
+use Rattle.chip.specs.Gaps.{strikes, worn, verdicts, worn-by, Gap-law}
 
 -- ---- one program
 
-module _ (table : List ℕ) (left : ℕ) (long : length table ≡ 8) (few : left ≤ 8) where
+module _ (table : List ℕ) (next : ℕ) (long : length table ≡ 8) where
   abbrev counts : ℕ
-  counts = getD table (8 - left) 0
+  counts = getD table next 0
 
   abbrev later : List ℕ
-  later = drop ((8 - left) + 1) table
+  later = drop (next + 1) table
 
-  pub none-left : left ≡ 0 → gaps-left table left ≡ []
-  none-left e = drop-all (8 - left) table (omega arith)
+  pub none-left : 8 ≤ next → drop next table ≡ []
+  none-left past = drop-all next table (omega arith)
 
-  some-left : 0 < left → gaps-left table left ≡ counts ∷ later
-  some-left some = drop-more table (8 - left) 0 (omega arith)
+  some-left : next < 8 → drop next table ≡ counts ∷ later
+  some-left some = drop-more table next 0 (omega arith)
 
-  pub strikes-is : 0 < left → leb counts 1 ≡ strikes (gaps-left table left)
+  pub strikes-is : next < 8 → leb counts 1 ≡ strikes (drop next table)
   strikes-is some = ap strikes (sym (some-left some))
 
-  pub worn-strike : 0 < left → counts ≤ 1 → gaps-left table (left - 1) ≡ worn (gaps-left table left)
-  worn-strike some down =
-      let e : 8 - (left - 1) ≡ (8 - left) + 1 = omega arith in
-      ap (λ k. drop k table) e ∙ sym (cond-true (leb counts 1) later ((counts - 1) ∷ later) (le-leb counts 1 down)) ∙ ap worn (sym (some-left some))
+  pub worn-strike : next < 8 → counts ≤ 1 → drop (next + 1) table ≡ worn (drop next table)
+  worn-strike some down = sym (cond-true (leb counts 1) later ((counts - 1) ∷ later) (le-leb counts 1 down)) ∙ ap worn (sym (some-left some))
 
-  pub worn-pass : 0 < left → 1 < counts → gaps-left (set table (8 - left) (counts - 1)) left ≡ worn (gaps-left table left)
+  pub worn-pass : next < 8 → 1 < counts → drop next (set table next (counts - 1)) ≡ worn (drop next table)
   worn-pass some up =
-      drop-set table (8 - left) (counts - 1) (omega arith)
+      drop-set table next (counts - 1) (omega arith)
       ∙ sym (cond-false (leb counts 1) later ((counts - 1) ∷ later) (lt-leb counts 1 up))
       ∙ ap worn (sym (some-left some))
 
 -- ---- a table that was just filled
 
-pub filled : (zs gaps put : List ℕ) → length zs ≡ 8 → length gaps ≤ 8 → put ≡ gaps
-    → gaps-left (putMid (8 - length gaps) (8 - (8 - length gaps)) zs put) (length gaps) ≡ gaps
-filled zs gaps put long few e =
-    let at = 8 - length gaps in
-    let none : drop (8 - at) (drop at zs) ≡ [] = drop-all (8 - at) (drop at zs) (simp length-drop (omega arith)) in
-    drop-at (take at zs) (put ++ drop (8 - at) (drop at zs)) at (length-take-le at zs (omega arith)) ∙ ap (λ z. put ++ z) none ∙ append-nil put ∙ e
+pub filled : (zs gaps put : List ℕ) (next : ℕ) → length zs ≡ 8 → next ≤ 8 → 8 - next ≡ length gaps → put ≡ gaps → drop next (putMid next (8 - next) zs put) ≡ gaps
+filled zs gaps put next long few count e =
+    let none : drop (8 - next) (drop next zs) ≡ [] = drop-all (8 - next) (drop next zs) (simp length-drop (omega arith)) in
+    drop-at (take next zs) (put ++ drop (8 - next) (drop next zs)) next (length-take-le next zs (omega arith)) ∙ ap (λ z. put ++ z) none ∙ append-nil put ∙ e
 
 -- ---- many programs
 

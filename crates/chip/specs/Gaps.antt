@@ -4,14 +4,13 @@
 -- worn          the gaps after an accepted program, the one that counts first
 -- verdicts      what so many accepted programs in a row answer; `worn-by` the gaps that are then left
 -- good-gaps     at most eight gaps, none of them 0
--- gaps-left     the gaps that a table still holds: they stand at its end
 -- Gap-law       a gap g lets g - 1 accepted programs pass and fails the next; then the next gap counts
 use mathlib.Core.Bool.{Bool, true, false, not, cond, _&&_}
 use mathlib.Core.List.{List, [], _∷_, _++_}
 use mathlib.Core.Path.{_≡_}
 use Prim.Native.Nat.{ℕ, zero, suc, _+_, _-_, _≤_}
 use lib.Dec.{leb, ltb}
-use lib.ListN.{length, drop, replicate}
+use lib.ListN.{length, replicate}
 
 abbrev pub strikes : List ℕ → Bool
 strikes [] = false
@@ -35,9 +34,6 @@ none-zero (g ∷ gs) = cond (ltb 0 g) (none-zero gs) false
 
 abbrev pub good-gaps : List ℕ → Bool
 good-gaps gs = leb (length gs) 8 && none-zero gs
-
-abbrev pub gaps-left : List ℕ → ℕ → List ℕ
-gaps-left table left = drop (8 - left) table
 
 pub record Gap-law : Type 0 where
   pub one-gap : (g : ℕ) (gs : List ℕ) → verdicts (g + 1) ((g + 1) ∷ gs) ≡ replicate g true ++ false ∷ []

@@ -1,6 +1,7 @@
 -- What the makes of chips mean, by the bytes of their memory.
 --
 -- means-of       what memory means to a chip of some size, with so many failures left
+-- Whole          the sizes are in range, and memory is as long as they ask
 -- plain-means    what a plain chip means: its memory, and no failure
 -- Never-fails    a program that was accepted was good
 -- flawed-means   what a flawed chip means: its memory, and as many failures as it has gaps left
@@ -13,10 +14,9 @@
 use mathlib.Core.Bool.{Bool, true, not, cond}
 use mathlib.Core.List.{List}
 use mathlib.Core.Path.{_≡_}
-use Prim.Native.Nat.{ℕ, _+_, _*_, _<_, _≤_}
+use Prim.Native.Nat.{ℕ, _+_, _-_, _*_, _<_, _≤_}
 use denote.Ref.{now}
-use lib.Dec.{eqb, ltb}
-use lib.ListN.{length}
+use lib.ListN.{length, drop}
 use Rattle.std.specs.declared.option.Option.the-variants.{Some, None}
 use Rattle.std.specs.declared.result.Result.{Result}
 use Rattle.std.specs.declared.result.Result.the-variants.{Ok, Err}
@@ -27,16 +27,15 @@ use Rattle.chip.specs.declared.words.Refusal.{Refusal}
 use Rattle.chip.specs.declared.words.Refusal.the-variants.{NotThere}
 use Rattle.chip.specs.Meaning.{Meaning, nothing}
 use Rattle.chip.specs.Calls.{asks-program}
-use Rattle.chip.specs.Gaps.{strikes, worn, good-gaps, gaps-left}
-use Rattle.chip.specs.Slot.{wide, laid, made, with-slot, blank-block}
-
--- a chip without pages has no failure left
-abbrev pub left-of : ℕ → ℕ → ℕ
-left-of n left = cond (ltb 0 n) left 0
+use Rattle.chip.specs.Gaps.{strikes, worn, good-gaps}
+use Rattle.chip.specs.Slot.{wide, fits, made, with-slot, blank-block}
 
 abbrev pub means-of : Size → ℕ → List ℕ → Meaning
-means-of s left memory =
-    cond (eqb (length memory) (s .bytes)) (laid (s .blocks) (s .«pages_per_block») (s .«page_size») (left-of (s .blocks) left) memory) nothing
+means-of s left memory = made (s .blocks) (s .«pages_per_block») (s .«page_size») left memory
+
+-- the sizes are in range, and memory is as long as they ask
+abbrev pub Whole : Size → ℕ → Type 0
+Whole s long = fits (s .blocks) (s .«pages_per_block») (s .«page_size») long ≡ true
 
 -- ---- plain
 
@@ -49,7 +48,7 @@ Never-fails (Err e) = Unit {0}
 
 -- the slot of a page begins at some byte, and lies in memory of the right length
 pub record Within (s : Size) (long q at : ℕ) : Type 0 where
-  pub whole : long ≡ s .bytes
+  pub whole : Whole s long
   pub there : q < s .blocks * s .«pages_per_block»
   pub begins : at ≡ q * wide (s .«page_size»)
   pub ends : at + wide (s .«page_size») ≤ long
@@ -64,7 +63,7 @@ Opened p q long (Err e) = asks-program (plain-means p) q long ≡ Some e
 
 -- the slots of a block lie between two bytes
 pub record Block-within (s : Size) (long b from to : ℕ) : Type 0 where
-  pub whole : long ≡ s .bytes
+  pub whole : Whole s long
   pub there : b < s .blocks
   pub begins : from ≡ b * s .«pages_per_block» * wide (s .«page_size»)
   pub wide-block : to ≡ from + s .«pages_per_block» * wide (s .«page_size»)
@@ -78,14 +77,14 @@ Bounded p b (Err e) = (e ≡ NotThere) × (plain-means p .blocks ≤ b)
 
 -- memory of the right length, in which the slot of a page is another
 pub record Touched (p : Plain) (q : ℕ) (slot : List ℕ) (p′ : Plain) : Type 0 where
-  pub whole : length (now (p .memory)) ≡ p .size .bytes
+  pub whole : Whole (p .size) (length (now (p .memory)))
   pub there : q < p .size .blocks * p .size .«pages_per_block»
   pub fills : length slot ≡ wide (p .size .«page_size»)
   pub size : p′ .size ≡ p .size
   pub bytes : now (p′ .memory) ≡ with-slot (p .size .«page_size») q slot (now (p .memory))
 
 pub record Blanked (p : Plain) (b : ℕ) (p′ : Plain) : Type 0 where
-  pub whole : length (now (p .memory)) ≡ p .size .bytes
+  pub whole : Whole (p .size) (length (now (p .memory)))
   pub there : b < p .size .blocks
   pub size : p′ .size ≡ p .size
   pub bytes : now (p′ .memory) ≡ blank-block (p .size .«page_size») (p .size .«pages_per_block») b (now (p .memory))
@@ -104,10 +103,10 @@ Wiped p b (Err e) p′ = (e ≡ NotThere) × (plain-means p .blocks ≤ b) × Un
 -- ---- flawed
 
 abbrev pub flawed-means : Flawed → Meaning
-flawed-means c = means-of (c .plain .size) (c .gaps .left) (now (c .plain .memory))
+flawed-means c = means-of (c .plain .size) (8 - c .gaps .next) (now (c .plain .memory))
 
 abbrev pub gaps-of : Flawed → List ℕ
-gaps-of c = gaps-left (c .gaps .table) (c .gaps .left)
+gaps-of c = drop (c .gaps .next) (c .gaps .table)
 
 -- just the accepted program on which the gap that counts is down to 1 fails; a refused one counts for nothing
 abbrev pub Counted : List ℕ → Result Bool Refusal → List ℕ → Type 0

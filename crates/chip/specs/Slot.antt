@@ -12,7 +12,6 @@
 -- pages-of     the pages that memory means: its slots, one by one
 -- laid         what memory means as a chip of some size
 -- fits         sizes that a chip may have, and memory of just that length
--- Sized        sizes in range, or zeros
 -- made         what a chip that is made of memory means
 -- Layout       the laws that tie the two directions
 use mathlib.Core.Bool.{Bool, true, false, cond, _&&_}
@@ -117,13 +116,6 @@ taken n per-block size = n * per-block * wide size
 
 abbrev pub fits : ℕ → ℕ → ℕ → ℕ → Bool
 fits n per-block size long = in-range n per-block size && eqb (taken n per-block size) long
-
--- sizes in range, or zeros
-abbrev pub Sized : ℕ → ℕ → ℕ → Type 0
-Sized n per-block size =
-    (n ≤ 64) × (per-block ≤ 32) × (size ≤ 512)
-    × (0 < n → (2 ≤ per-block) × (1 ≤ size))
-    × (n ≡ 0 → (per-block ≡ 0) × (size ≡ 0))
 
 -- what a chip that is made of memory means: nothing, unless the sizes are in range and the memory is as long as they ask
 abbrev pub made : ℕ → ℕ → ℕ → ℕ → List ℕ → Meaning

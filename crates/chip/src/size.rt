@@ -1,54 +1,29 @@
-ghost use mathlib.Core.Bool.{cond};
 ghost use mathlib.Core.Path.{_≡_};
-ghost use Prim.Native.Nat.{ℕ};
-ghost use Rattle.chip.specs.Slot.{Sized, taken, in-range, fits};
+ghost use Rattle.chip.specs.Slot.{in-range, fits};
 use crate::slot;
 
-// How large a chip in memory is, and how many bytes it takes. Zeros stand for a chip that could not be made.
+// How large a chip in memory is to be. Nothing is known of the numbers: each call asks whether they fit the memory.
 #[derive(Clone, Copy)]
 pub(crate) struct Size {
     pub(crate) blocks: u16,
     pub(crate) pages_per_block: u16,
     pub(crate) page_size: u16,
-    pub(crate) bytes: usize,
-    ghost sized: { Sized blocks «pages_per_block» «page_size» },
-    ghost long: { bytes ≡ taken blocks «pages_per_block» «page_size» },
-}
-
-fn in_range(blocks: u16, pages_per_block: u16, page_size: u16) -> bool
-    ensures { λ r. ⌜ r ≡ in-range blocks «pages_per_block» «page_size» ⌝ }
-{
-    (0 < blocks && blocks <= 64)
-        && (1 < pages_per_block && pages_per_block <= 32)
-        && (0 < page_size && page_size <= 512)
 }
 
 impl Size {
-    // These sizes, if they are in range and take just so many bytes.
-    pub(crate) fn new(long: usize, blocks: u16, pages_per_block: u16, page_size: u16) -> Size
-        ensures blocks { λ r. ⌜ r .blocks ≡ cond (fits blocks «pages_per_block» «page_size» long) blocks 0 ⌝ }
-        ensures pages { λ r. ⌜ r .«pages_per_block» ≡ cond (fits blocks «pages_per_block» «page_size» long) «pages_per_block» 0 ⌝ }
-        ensures page { λ r. ⌜ r .«page_size» ≡ cond (fits blocks «pages_per_block» «page_size» long) «page_size» 0 ⌝ }
-        ensures bytes { λ r. ⌜ r .bytes ≡ cond (fits blocks «pages_per_block» «page_size» long) long 0 ⌝ }
+    fn in_range(&self) -> bool
+        ensures { λ r. ⌜ r ≡ in-range (now (self .entry) .blocks) (now (self .entry) .«pages_per_block») (now (self .entry) .«page_size») ⌝ }
     {
-        if in_range(blocks, pages_per_block, page_size) {
-            let bytes = blocks as usize
-                * pages_per_block as usize
-                * (slot::HEADER + page_size as usize);
-            if bytes == long {
-                return Size {
-                    blocks,
-                    pages_per_block,
-                    page_size,
-                    bytes,
-                };
-            }
-        }
-        Size {
-            blocks: 0,
-            pages_per_block: 0,
-            page_size: 0,
-            bytes: 0,
-        }
+        (0 < self.blocks && self.blocks <= 64)
+            && ((1 < self.pages_per_block && self.pages_per_block <= 32)
+                && (0 < self.page_size && self.page_size <= 512))
+    }
+
+    // Whether a chip may have this size, and takes just so many bytes.
+    pub(crate) fn fit(&self, long: usize) -> bool
+        ensures { λ r. ⌜ r ≡ fits (now (self .entry) .blocks) (now (self .entry) .«pages_per_block») (now (self .entry) .«page_size») long ⌝ }
+    {
+        let slots = self.blocks as usize * self.pages_per_block as usize;
+        self.in_range() && slots * (slot::HEADER + self.page_size as usize) == long
     }
 }

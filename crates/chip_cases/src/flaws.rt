@@ -19,7 +19,11 @@ fn gaps_of_3_1_and_2_fail_the_third_fourth_and_sixth_program() -> Result<(), Fai
         check_eq(chip.program(page, page, b"+")?, good[page as usize])?;
         check_eq(chip.program(page, page, b"+"), Err(Refusal::WrongKind))?;
         check_eq(chip.shape().allowance, left[page as usize])?;
-        let kind = if good[page as usize] { Kind::Written } else { Kind::Spoiled };
+        let kind = if good[page as usize] {
+            Kind::Written
+        } else {
+            Kind::Spoiled
+        };
         check_eq(chip.kind(page)?, kind)?;
     }
     let failed = [0; 17];
@@ -29,7 +33,20 @@ fn gaps_of_3_1_and_2_fail_the_third_fourth_and_sixth_program() -> Result<(), Fai
 #[test]
 fn a_bad_gap_gives_no_pages() -> Result<(), Fail> {
     let mut memory = [0xFF; 136];
-    check_eq(Flawed::new(&mut memory, 2, 4, 1, &[1, 2, 3, 4, 5, 6, 7, 8]).shape().allowance, 8)?;
-    check_eq(Flawed::new(&mut memory, 2, 4, 1, &[1, 2, 3, 4, 5, 6, 7, 8, 9]).shape().blocks, 0)?;
-    check_eq(Flawed::new(&mut memory, 2, 4, 1, &[1, 0]).kind(0), Err(Refusal::NotThere))
+    check_eq(
+        Flawed::new(&mut memory, 2, 4, 1, &[1, 2, 3, 4, 5, 6, 7, 8])
+            .shape()
+            .allowance,
+        8,
+    )?;
+    check_eq(
+        Flawed::new(&mut memory, 2, 4, 1, &[1, 2, 3, 4, 5, 6, 7, 8, 9])
+            .shape()
+            .blocks,
+        0,
+    )?;
+    check_eq(
+        Flawed::new(&mut memory, 2, 4, 1, &[1, 0]).kind(0),
+        Err(Refusal::NotThere),
+    )
 }

@@ -11,6 +11,7 @@ use crate::chip::Chip;
 use crate::flawed::Flawed;
 use crate::gaps::Gaps;
 use crate::plain::Plain;
+use crate::size::Size;
 use crate::words::Kind;
 use crate::words::Refusal;
 use crate::words::Shape;
@@ -33,13 +34,27 @@ impl<'a> Flawed<'a> {
     {
         match Gaps::new(gaps) {
             Some(gaps) => Flawed {
-                plain: Plain::new(memory, blocks, pages_per_block, page_size),
+                plain: Plain::over(
+                    memory,
+                    Size {
+                        blocks,
+                        pages_per_block,
+                        page_size,
+                    },
+                ),
                 gaps,
             },
-            None => Flawed {
-                plain: Plain::new(memory, 0, 0, 0),
-                gaps: Gaps::none(),
-            },
+            None => {
+                let none = Size {
+                    blocks: 0,
+                    pages_per_block: 0,
+                    page_size: 0,
+                };
+                Flawed {
+                    plain: Plain::over(memory, none),
+                    gaps: Gaps::none(),
+                }
+            }
         }
     }
 }
@@ -55,19 +70,7 @@ pub impl<'a> Chip for Flawed<'a> as FlawedChip {
         ensures gaps { λ _. ⌜ gaps-of (now (self .exit)) ≡ gaps-of (now (self .entry)) ⌝ }
         ensures bytes { λ _. ⌜ now (now (self .exit) .plain .memory) ≡ now (now (self .entry) .plain .memory) ⌝ }
     {
-        let Shape {
-            blocks,
-            pages_per_block,
-            page_size,
-            ..
-        } = self.plain.told();
-        let allowance = if blocks > 0 { self.gaps.left as u16 } else { 0 };
-        Shape {
-            blocks,
-            pages_per_block,
-            page_size,
-            allowance,
-        }
+        self.plain.told(self.gaps.left())
     }
 
     fn kind(&mut self, page: u16) -> Result<Kind, Refusal>

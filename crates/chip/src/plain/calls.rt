@@ -8,7 +8,7 @@ ghost use Rattle.chip.specs.declared.words.Refusal.the-variants.{NotThere};
 ghost use Rattle.chip.specs.Meaning.{Meaning, Shaped};
 ghost use Rattle.chip.specs.Calls.{shape-of, kind-told, Programmed, fetched, fetched-into, erase-told, erased, asks-program};
 ghost use Rattle.chip.specs.Slot.{wide, slot-of, failed-slot, programmed-bytes, block-erased, made, Layout};
-ghost use Rattle.chip.specs.Makes.{plain-means, Never-fails, Placed, Opened, Bounded, Put, Wiped};
+ghost use Rattle.chip.specs.Makes.{means-of, plain-means, Never-fails, Placed, Opened, Bounded, Put, Wiped};
 ghost use Rattle.chip.specs.Shaping.{plain-shaped};
 use crate::chip::Chip;
 use crate::plain::Plain;
@@ -25,7 +25,20 @@ impl<'a> Plain<'a> {
         ensures bytes { λ r. ⌜ now (r .memory) ≡ now (memory .entry) ⌝ }
         ensures layout { λ _. ⌜ Layout ⌝ }
     {
-        let size = Size::new(memory.len(), blocks, pages_per_block, page_size);
+        Plain::over(
+            memory,
+            Size {
+                blocks,
+                pages_per_block,
+                page_size,
+            },
+        )
+    }
+
+    pub(crate) fn over(memory: &'a mut [u8], size: Size) -> Plain<'a>
+        ensures size { λ r. ⌜ r .size ≡ size ⌝ }
+        ensures bytes { λ r. ⌜ now (r .memory) ≡ now (memory .entry) ⌝ }
+    {
         Plain { memory, size }
     }
 
@@ -41,16 +54,17 @@ impl<'a> Plain<'a> {
         ensures { λ r. ⌜ Placed (now (self .entry)) page r ⌝ }
     {
         let pages = self.size.blocks as usize * self.size.pages_per_block as usize;
-        if self.memory.len() != self.size.bytes || page as usize >= pages {
+        if !self.size.fit(self.memory.len()) || page as usize >= pages {
             return Err(Refusal::NotThere);
         }
         Ok(page as usize * self.wide())
     }
 
-    pub(crate) fn told(&self) -> Shape
-        ensures { λ r. ⌜ r ≡ shape-of (plain-means (now (self .entry))) ⌝ }
+    // The shape, with so many failures left.
+    pub(crate) fn told(&self, allowance: u16) -> Shape
+        ensures { λ r. ⌜ r ≡ shape-of (means-of (now (self .entry) .size) allowance (now (now (self .entry) .memory))) ⌝ }
     {
-        if self.memory.len() != self.size.bytes {
+        if !self.size.fit(self.memory.len()) {
             return Shape {
                 blocks: 0,
                 pages_per_block: 0,
@@ -62,7 +76,7 @@ impl<'a> Plain<'a> {
             blocks: self.size.blocks,
             pages_per_block: self.size.pages_per_block,
             page_size: self.size.page_size,
-            allowance: 0,
+            allowance,
         }
     }
 
@@ -102,7 +116,7 @@ impl<'a> Plain<'a> {
     fn block(&self, block: u16) -> Result<(usize, usize), Refusal>
         ensures { λ r. ⌜ Bounded (now (self .entry)) block r ⌝ }
     {
-        if self.memory.len() != self.size.bytes || block >= self.size.blocks {
+        if !self.size.fit(self.memory.len()) || block >= self.size.blocks {
             return Err(Refusal::NotThere);
         }
         let pages = self.size.pages_per_block as usize;
@@ -151,20 +165,7 @@ pub impl<'a> Chip for Plain<'a> as PlainChip {
         ensures same { λ _. ⌜ plain-means (now (self .exit)) ≡ plain-means (now (self .entry)) ⌝ }
         ensures bytes { λ _. ⌜ now (now (self .exit) .memory) ≡ now (now (self .entry) .memory) ⌝ }
     {
-        if self.memory.len() != self.size.bytes {
-            return Shape {
-                blocks: 0,
-                pages_per_block: 0,
-                page_size: 0,
-                allowance: 0,
-            };
-        }
-        Shape {
-            blocks: self.size.blocks,
-            pages_per_block: self.size.pages_per_block,
-            page_size: self.size.page_size,
-            allowance: 0,
-        }
+        self.told(0)
     }
 
     fn kind(&mut self, page: u16) -> Result<Kind, Refusal>

@@ -1,5 +1,5 @@
 use mathlib.Core.Path.{refl, sym}
-use mathlib.Core.List.{List, [], _∷_}
+use Prim.Native.Nat.{_-_}
 use native.Mathlib.Omega.{arith}
 use lib.Dec.{leb}
 use lib.ListN.{length, replicate}
@@ -12,6 +12,6 @@ pub returns : need.returns
 returns c =
     let gaps = c .args .gaps .now in (
       and-from (leb (length gaps) 8) (none-zero gaps) (le-leb (length gaps) 8 (omega arith)) (sym (c .if-not-none-zero .ensures tt)),
-      refl,
-      filled (replicate 8 0) gaps (c .copy-from-slice .last .self) refl (omega arith) (c .copy-from-slice .ensures .after),
+      omega arith,
+      filled (replicate 8 0) gaps (c .copy-from-slice .last .self) (8 - length gaps) refl (omega arith) (omega arith) (c .copy-from-slice .ensures .after),
     )

@@ -16,8 +16,8 @@ returns-then-strike c =
     let worn = c .wear .ensures in
     record {
       effect =
-          programmed-failed (f .plain) (c .spoil .last .self) (f .gaps .left) (c .wear .last .self .left) (c .args .page) (c .args .label) (c .args .bytes .now) (done .0)
-          (c .strike .ensures .some (c .if-strike .taken)) (worn .left ∙ ap (λ t. f .gaps .left - cond t 1 0) struck) (done .2);
+          programmed-failed (f .plain) (c .spoil .last .self) (8 - f .gaps .next) (8 - c .wear .last .self .next) (c .args .page) (c .args .label) (c .args .bytes .now) (done .0)
+          (c .strike .ensures .some (c .if-strike .taken)) (worn .left ∙ ap (λ t. (8 - f .gaps .next) - cond t 1 0) struck) (done .2);
       counted = (ap not (sym struck), worn .after);
       bytes = done .2 .bytes;
     }
@@ -31,8 +31,8 @@ returns c =
     let worn = c .wear-2 .ensures in
     record {
       effect =
-          programmed-good (f .plain) (c .put .last .self) (f .gaps .left) (c .wear-2 .last .self .left) (c .args .page) (c .args .label) (c .args .bytes .now) (done .0) (done .1)
-          (worn .left ∙ ap (λ t. f .gaps .left - cond t 1 0) passed ∙ sub-zero (f .gaps .left)) (done .2);
+          programmed-good (f .plain) (c .put .last .self) (8 - f .gaps .next) (8 - c .wear-2 .last .self .next) (c .args .page) (c .args .label) (c .args .bytes .now) (done .0) (done .1)
+          (worn .left ∙ ap (λ t. (8 - f .gaps .next) - cond t 1 0) passed ∙ sub-zero (8 - f .gaps .next)) (done .2);
       counted = (ap not (sym passed), worn .after);
       bytes = done .2 .bytes;
     }

@@ -3,7 +3,6 @@ use Rattle.chip.specs.Calls.{with-page}
 use Rattle.chip.specs.Slot.{slot-of}
 use Rattle.chip.specs.Makes.{plain-means}
 use Rattle.chip.proofs.Slots.{page-of-slot}
-use Rattle.chip.proofs.Placing.{none-left}
 use Rattle.chip.proofs.Touching.{touched-means}
 use Rattle.chip.proofs.plain.calls.PlainChip.program.Needs as need
 
@@ -16,7 +15,7 @@ returns c =
       effect = (
         done .0,
         tt,
-        touched-means 0 0 0 p (c .put .last .self) (c .args .page) (slot-of size (c .args .label) (c .args .bytes .now)) (none-left (p .size .blocks)) (done .2)
+        touched-means 0 0 0 p (c .put .last .self) (c .args .page) (slot-of size (c .args .label) (c .args .bytes .now)) refl (done .2)
             ∙ ap (λ x. with-page (plain-means p) (c .args .page) x 0) (page-of-slot size (c .args .label) (c .args .bytes .now) (done .1)),
       );
       good = refl;
