@@ -11,7 +11,8 @@ use crate::words::Shape;
 pub trait Chip {
     ghost means: { Self → Meaning };
 
-    law shaped: { (c : Self) → Shaped (means c) };
+    // The law of the shape: every make shows it of whatever it means.
+    ghost shaped: { (c : Self) → Shaped (means c) };
 
     // The size, and the allowance.
     fn shape(&mut self) -> Shape

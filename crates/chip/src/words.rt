@@ -1,3 +1,6 @@
+ghost use mathlib.Core.Path.{_≡_};
+ghost use Rattle.chip.specs.Calls.{number};
+
 // What a page is. The label and data of a written page are told by `fetch`.
 #[derive(Clone, Copy, PartialEq, Eq, Debug)]
 pub enum Kind {
@@ -15,6 +18,19 @@ pub enum Refusal {
     WrongKind,
     // Does the data fit the page, or the caller's buffer?
     TooLong,
+}
+
+impl Refusal {
+    // The number under which the rules list this refusal.
+    pub fn number(self) -> u8
+        ensures { λ r. ⌜ r ≡ number self ⌝ }
+    {
+        match self {
+            Refusal::NotThere => 21,
+            Refusal::WrongKind => 22,
+            Refusal::TooLong => 23,
+        }
+    }
 }
 
 // How large a chip is, and how many of its page writes may still fail.

@@ -1,0 +1,10 @@
+pub mod Windows
+pub mod Slots
+pub mod Reading
+pub mod Writing
+pub mod Placing
+pub mod Touching
+pub mod Wearing
+pub mod Flawing
+pub mod Joining
+pub mod Blocks
