@@ -1,0 +1,5 @@
+use Rattle.history.proofs.Kept.{seats-kept}
+use Rattle.history.proofs.theorems.seats_stand.Needs as need
+
+pub returns : need.returns
+returns c = seats-kept

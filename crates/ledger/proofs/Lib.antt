@@ -1,0 +1,14 @@
+pub mod Facts
+pub mod Clockwork
+pub mod Jobs
+pub mod Sums
+pub mod Puts
+pub mod Ends
+pub mod Bounds
+pub mod Opens
+pub mod Admits
+pub mod Answered
+pub mod Tokens
+pub mod Settles
+pub mod Walk
+pub mod Kept

@@ -1,0 +1,11 @@
+use Rattle.ledger.proofs.Puts.{put-as, took-put}
+use Rattle.ledger.proofs.ledger.Ledger.grant.Needs as need
+
+pub put-requires : need.put-requires
+put-requires c κs =
+    let l = c .args .self .now in
+    let told = c .in-Continue-job .ensures tt in
+    record {
+      within = told .found .there;
+      fair = put-as l (told .found) (c .took .ensures) (took-put l (told .found) (told .serves) (told .room));
+    }

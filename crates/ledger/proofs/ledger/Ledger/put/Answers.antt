@@ -1,0 +1,4 @@
+use Rattle.ledger.proofs.ledger.Ledger.put.Needs as need
+
+pub ghost-self : need.ghost-self
+ghost-self c = (∣ c .pre .fair ∣₁, tt)

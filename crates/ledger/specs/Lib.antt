@@ -1,0 +1,10 @@
+pub mod Refusals
+pub mod Seats
+pub mod Books
+pub mod Shares
+pub mod Steps
+pub mod Fair
+pub mod Settled
+pub mod Walk
+pub mod Keeps
+pub mod Of

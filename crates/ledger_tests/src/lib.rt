@@ -1,0 +1,3 @@
+// Examples of the ledger, call by call.
+#[cfg(test)]
+mod tests;

@@ -1,0 +1,5 @@
+pub mod Search
+pub mod Tied
+pub mod Write
+pub mod Copy
+pub mod Recycle

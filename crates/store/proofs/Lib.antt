@@ -1,0 +1,17 @@
+pub mod Booking
+pub mod Saving
+pub mod Fresh
+pub mod Reading
+pub mod Collecting
+pub mod Running
+pub mod Serving
+pub mod Passing
+pub mod Invariant
+pub mod SeatsKept
+pub mod OpensKept
+pub mod SavesKept
+pub mod ReadsKept
+pub mod WalksKept
+pub mod TicksKept
+pub mod PromiseKept
+pub mod Entering

@@ -1,0 +1,5 @@
+pub mod State
+pub mod Tick
+pub mod Effects
+pub mod Calls
+pub mod Walking
