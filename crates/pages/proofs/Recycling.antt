@@ -50,8 +50,8 @@ module _ (m : Meaning) (t : Tables) (α : ℕ) (can : Can-recycle m t α) where
   is-question =
       askable-from counts (omega (arith, long, t .geometry .sized .0)) (omega (arith, long, t .geometry .sized .1))
       (λ b there.
-          let n = tally-le (λ q. is-dead (maps-of t) q (page-in (m .pages) q)) (b * per-block t) (per-block t) in
-          omega (arith, each b (omega (arith, long, there)), n, t .geometry .sized .3))
+      let n = tally-le (λ q. is-dead (maps-of t) q (page-in (m .pages) q)) (b * per-block t) (per-block t) in
+      omega (arith, each b (omega (arith, long, there)), n, t .geometry .sized .3))
 
   all-dead : sum counts ≡ deads (maps-of t) (page-in (m .pages)) 0 (length (m .pages))
   all-dead =

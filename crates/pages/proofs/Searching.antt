@@ -45,10 +45,10 @@ module _ (passed : ℕ → Bool) (pages : List Page) (total start : ℕ) (long :
     grind (arith, tells),
     below-more (λ j. passed (round total (start + j)) ≡ false → is-free (getD pages (round total (start + j)) free) ≡ false) looked done
         (λ open-to.
-            let there = round-there (start + looked) (omega arith) in
-            let same = getD-default pages page free spoiled (rw at (omega arith)) in
-            let closed = and-false (passed page) (is-free (getD pages page spoiled)) (sym taken) (ap passed at ∙ open-to) in
-            ap (λ k. is-free (getD pages k free)) (sym at) ∙ ap is-free same ∙ closed),
+        let there = round-there (start + looked) (omega arith) in
+        let same = getD-default pages page free spoiled (rw at (omega arith)) in
+        let closed = and-false (passed page) (is-free (getD pages page spoiled)) (sym taken) (ap passed at ∙ open-to) in
+        ap (λ k. is-free (getD pages k free)) (sym at) ∙ ap is-free same ∙ closed),
   )
 
   pub looked-all : Looked total → (k : ℕ) → k < length pages → passed k ≡ false → is-free (getD pages k free) ≡ false

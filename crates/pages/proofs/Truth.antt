@@ -121,9 +121,10 @@ module _ {most : ℕ} {pages : List Page} {t : Tables} (k : Tied most pages t) w
       labelled-settled : Labelled most (set pages q (written l d)) (maps-of (settled t l q))
       labelled-settled m r named =
           elim (ℕ-discrete m l) [
-            | yes same ↦ (let e : maps-of (settled t l q) l ≡ Some r = ap (maps-of (settled t l q)) (sym same) ∙ named in let f : q ≡ r = cc (e, mapped) in
-                (subst (λ x. x < length (set pages q (written l d))) f (rw (length-set pages q (written l d)) (p .there)),
-                (d, ap (page-in (set pages q (written l d))) (sym f) ∙ getD-set-same pages q (written l d) free (p .there) ∙ ap (λ x. written x d) (sym same), small)))
+            | yes same ↦ (let e : maps-of (settled t l q) l ≡ Some r = ap (maps-of (settled t l q)) (sym same) ∙ named in let f : q ≡ r = cc (e, mapped) in (
+              subst (λ x. x < length (set pages q (written l d))) f (rw (length-set pages q (written l d)) (p .there)),
+              (d, ap (page-in (set pages q (written l d))) (sym f) ∙ getD-set-same pages q (written l d) free (p .there) ∙ ap (λ x. written x d) (sym same), small),
+            ))
             | no apart ↦ (let w = labelled-on (written l d) m r (sym (rest m apart) ∙ named) in w)
           ]
 

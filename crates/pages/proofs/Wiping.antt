@@ -38,10 +38,10 @@ module _ {most : ℕ} {pages : List Page} {t : Tables} (k : Tied most pages t) (
   lives-none =
       tally-none (λ q. is-live (maps-of t) q (page-in pages q)) (b * per-block t) (per-block t)
       (λ q low high.
-          elim (cases-bool (is-live (maps-of t) q (page-in pages q))) [
-            | inl live ↦ (let w = live-named (maps-of t) q (page-in pages q) live in absurd (none-live (w .0) q (w .3) (block-from (per-block t) q b low high)))
-            | inr dead ↦ dead
-          ])
+      elim (cases-bool (is-live (maps-of t) q (page-in pages q))) [
+        | inl live ↦ (let w = live-named (maps-of t) q (page-in pages q) live in absurd (none-live (w .0) q (w .3) (block-from (per-block t) q b low high)))
+        | inr dead ↦ dead
+      ])
 
   -- what was counted as dead becomes free
   frees-on : t .free + getD (t .dead) b 0 ≡ frees (page-in (wiped (per-block t) b pages)) 0 (length (wiped (per-block t) b pages))

@@ -5,8 +5,8 @@ ghost use lib.ListN.{length};
 ghost use Rattle.history.specs.Pages.{names};
 ghost use Rattle.pages.specs.Tied.{maps-of};
 ghost use Rattle.pages.specs.Copy.{Can-copy, Copies};
-use chip::Chip;
 use crate::tables::Tables;
+use chip::Chip;
 
 impl Tables {
     // Does the map name this page for a label?
@@ -24,7 +24,13 @@ impl Tables {
     }
 
     // Copies a page out of its block if it is live, and says how many programs that took: none if it is not.
-    pub fn copy_one<C: Chip>(&mut self, chip: &mut C, buffer: &mut [u8], block: u16, page: u16) -> Option<u32>
+    pub fn copy_one<C: Chip>(
+        &mut self,
+        chip: &mut C,
+        buffer: &mut [u8],
+        block: u16,
+        page: u16,
+    ) -> Option<u32>
         ensures { λ r. ⌜ (Can-copy (C·Chip .means (now (chip .entry))) (now (self .entry)) block page (length (now (buffer .entry))) → Copies (C·Chip .means (now (chip .entry))) (now (self .entry)) block page r (C·Chip .means (now (chip .exit))) (now (self .exit))) ⌝ }
     {
         let (label, length) = match chip.fetch(page, buffer) {

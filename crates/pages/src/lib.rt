@@ -8,8 +8,6 @@ mod search;
 mod tables;
 mod write;
 
-
-
 pub use emptied::Emptied;
 pub use geometry::Geometry;
 pub use tables::Tables;

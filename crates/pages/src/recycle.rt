@@ -3,11 +3,11 @@ ghost use mathlib.Core.Path.{_≡_};
 ghost use lib.ListN.{length};
 ghost use Rattle.history.specs.Work.{after-wipe};
 ghost use Rattle.pages.specs.Recycle.{added, Can-empty, Empties, Can-wipe, Wipes, Can-recycle, Recycles};
+use crate::emptied::Emptied;
+use crate::tables::Tables;
 use chip::Chip;
 use chooser::Chooser;
 use chooser::Question;
-use crate::emptied::Emptied;
-use crate::tables::Tables;
 
 impl Emptied {
     // One page more was looked at, and copied if any program was called for it.
@@ -32,7 +32,10 @@ impl Tables {
         }
         let pages_per_block = self.geometry.pages_per_block;
         let first = block * pages_per_block;
-        let mut done = Emptied { copies: 0, tries: 0 };
+        let mut done = Emptied {
+            copies: 0,
+            tries: 0,
+        };
         for i in 0..pages_per_block {
             let made = match self.copy_one(chip, buffer, block, first + i) {
                 Some(made) => made,
@@ -79,7 +82,9 @@ impl Tables {
     {
         let mut buffer = [0u8; 512];
         let blocks = self.geometry.blocks as usize;
-        let block = chooser.choose(Question { dead: &self.dead[0..blocks] });
+        let block = chooser.choose(Question {
+            dead: &self.dead[0..blocks],
+        });
         let done = match self.empty(chip, &mut buffer, block) {
             Some(done) => done,
             None => return None,

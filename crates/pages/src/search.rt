@@ -5,10 +5,10 @@ ghost use Rattle.chip.specs.Meaning.{page-at};
 ghost use Rattle.chip.specs.Calls.{is-free};
 ghost use Rattle.history.specs.Work.{next-page};
 ghost use Rattle.pages.specs.Search.{total as pages-of, over, Sized, Found};
-use chip::Chip;
-use chip::Kind;
 use crate::geometry::Geometry;
 use crate::tables::Tables;
+use chip::Chip;
+use chip::Kind;
 
 impl Geometry {
     // How many pages there are.
@@ -30,7 +30,11 @@ impl Geometry {
         ensures { λ r. ⌜ r ≡ next-page (pages-of self) page ⌝ }
     {
         let pages = self.pages();
-        if page < pages && page + 1 < pages { page + 1 } else { 0 }
+        if page < pages && page + 1 < pages {
+            page + 1
+        } else {
+            0
+        }
     }
 }
 
@@ -61,7 +65,11 @@ impl Tables {
         ensures value { λ r. ⌜ r ≡ (not (over (now (self .entry) .geometry .«pages_per_block») skip page) && is-free (page-at (C·Chip .means (now (chip .entry))) page)) ⌝ }
         ensures same { λ _. ⌜ C·Chip .means (now (chip .exit)) ≡ C·Chip .means (now (chip .entry)) ⌝ }
     {
-        if self.passed_over(page, skip) { false } else { is_free(chip, page) }
+        if self.passed_over(page, skip) {
+            false
+        } else {
+            is_free(chip, page)
+        }
     }
 
     // The first free page going up and round from where the search starts; the pages of one block may be

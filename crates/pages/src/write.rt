@@ -2,8 +2,8 @@ ghost use mathlib.Core.Path.{_≡_};
 ghost use lib.ListN.{length};
 ghost use Rattle.pages.specs.Tied.{maps-of, buried, with-dead, spoilt, superseded, settled, Countable, Replaceable};
 ghost use Rattle.pages.specs.Write.{Can-write, Writes};
-use chip::Chip;
 use crate::tables::Tables;
+use chip::Chip;
 
 impl Tables {
     // One page more of a block is dead.
@@ -53,7 +53,13 @@ impl Tables {
     }
 
     // Tries one place after another until a program is good, and says how many tries that took.
-    pub fn write<C: Chip>(&mut self, chip: &mut C, label: u16, bytes: &[u8], skip: Option<u16>) -> Option<u32>
+    pub fn write<C: Chip>(
+        &mut self,
+        chip: &mut C,
+        label: u16,
+        bytes: &[u8],
+        skip: Option<u16>,
+    ) -> Option<u32>
         ensures { λ r. ⌜ (Can-write (C·Chip .means (now (chip .entry))) (now (self .entry)) skip label (length (now (bytes .entry))) → Writes (C·Chip .means (now (chip .entry))) (now (self .entry)) skip label (now (bytes .entry)) r (C·Chip .means (now (chip .exit))) (now (self .exit))) ⌝ }
     {
         let mut tries = 0;

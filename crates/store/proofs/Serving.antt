@@ -50,7 +50,6 @@ same-size-on : (m n o : Meaning) → Same-size m n → Same-size n o → Same-si
 same-size-on m n o a b = record { blocks = b .blocks ∙ a .blocks; per-block = b .per-block ∙ a .per-block; page-size = b .page-size ∙ a .page-size }
 
 module _ {C H : Type 0} (means : C → Meaning) where
-
   pub between-none : (n : ℕ) (k : Ticked) (s : Store C H) → Sound-at (means (s .chip)) (books-of (s .ledger)) (s .tables) → Few n k (means (s .chip)) → Between means n k s k s
   between-none n k s sound few =
       record { sound = sound; few = few; failed = omega arith; sizes = record { blocks = refl; per-block = refl; page-size = refl }; is-open = refl }

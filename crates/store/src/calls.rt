@@ -7,11 +7,11 @@ ghost use Rattle.history.specs.History.{History};
 ghost use Rattle.store.specs.State.{Sound};
 ghost use Rattle.store.specs.Effects.{Opens, Admits, Notices, Takes, Returns, Saves, Reads, Ticks};
 ghost use Rattle.store.specs.Calls.{Run, Entered, entry-open, entry-admit, entry-notice, entry-take, entry-return, entry-save, entry-read, entry-tick, bytes-read};
-use chip::Chip;
-use chooser::Chooser;
 use crate::store::Permit;
 use crate::store::Store;
 use crate::ticked::Ticked;
+use chip::Chip;
+use chooser::Chooser;
 use ledger::Refusal;
 use plan::Plan;
 

@@ -3,13 +3,13 @@ ghost use mathlib.Core.Path.{_≡_};
 ghost use Rattle.store.specs.State.{Sound};
 ghost use Rattle.store.specs.Effects.{Ticks};
 ghost use Rattle.store.specs.Walking.{one-run, one-recycle, Can-run, Runs, Can-serve, Serves};
+use crate::saves::pay_for;
+use crate::store::Store;
+use crate::ticked::Ticked;
 use chip::Chip;
 use chooser::Chooser;
 use ledger::Refusal;
 use pages::Emptied;
-use crate::saves::pay_for;
-use crate::store::Store;
-use crate::ticked::Ticked;
 
 impl Ticked {
     // One run more that needed no recycle.
