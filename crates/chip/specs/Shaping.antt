@@ -33,6 +33,7 @@ pub record Fit (n per-block size long : ℕ) : Type 0 where
   pub long-is : taken n per-block size ≡ long
 
 pub fit : (n per-block size long : ℕ) → fits n per-block size long ≡ true → Fit n per-block size long
+unfolding fits
 fit n per-block size long e =
     let all = and-parts (in-range n per-block size) (eqb (taken n per-block size) long) e in
     let range = and-parts (ltb 0 n && leb n 64) ((ltb 1 per-block && leb per-block 32) && (ltb 0 size && leb size 512)) (all .0) in
@@ -76,6 +77,11 @@ module _ (n per-block size left : ℕ) (memory : List ℕ) where
         | inl good ↦ inr (subst In-range (sym (made-laid good)) (laid-in-range few (fit n per-block size (length memory) good)))
         | inr bad ↦ inl (made-nothing bad)
       ]
+
+-- a chip of zeros is nothing, whatever its memory
+pub made-zeros : (left : ℕ) (memory : List ℕ) → made 0 0 0 left memory ≡ nothing
+unfolding fits
+made-zeros left memory = refl
 
 pub plain-shaped : (c : Plain) → Shaped (plain-means c)
 plain-shaped c = made-shaped (c .size .blocks) (c .size .«pages_per_block») (c .size .«page_size») 0 (now (c .memory)) (omega arith)

@@ -114,7 +114,7 @@ in-range n per-block size = (ltb 0 n && leb n 64) && ((ltb 1 per-block && leb pe
 abbrev pub taken : ℕ → ℕ → ℕ → ℕ
 taken n per-block size = n * per-block * wide size
 
-abbrev pub fits : ℕ → ℕ → ℕ → ℕ → Bool
+unfoldable pub fits : ℕ → ℕ → ℕ → ℕ → Bool
 fits n per-block size long = in-range n per-block size && eqb (taken n per-block size) long
 
 -- what a chip that is made of memory means: nothing, unless the sizes are in range and the memory is as long as they ask

@@ -8,6 +8,7 @@ use Rattle.chip.specs.Meaning.{nothing}
 use Rattle.chip.specs.Slot.{made}
 use Rattle.chip.specs.Gaps.{good-gaps}
 use Rattle.chip.specs.Makes.{means-of}
+use Rattle.chip.specs.Shaping.{made-zeros}
 use Rattle.chip.proofs.Slots.{layout}
 use Rattle.chip.proofs.Wearing.{gap-law}
 use Rattle.chip.proofs.flawed.Flawed.new.Needs as need
@@ -41,6 +42,7 @@ returns-in-None c =
     record {
       means =
           ap (λ s. means-of s left (now (p .memory))) (c .over-in-None .ensures .size)
+          ∙ made-zeros left (now (p .memory))
           ∙ sym (cond-false (good-gaps gaps) (made (c .args .blocks) (c .args .pages-per-block) (c .args .page-size) (length gaps) memory) nothing bad);
       gaps = c .none .ensures ∙ sym (cond-false (good-gaps gaps) gaps [] bad);
       bytes = c .over-in-None .ensures .bytes;
