@@ -2,7 +2,6 @@ pub mod Pages
 pub mod History
 pub mod Promise
 pub mod Work
-pub mod Stretch
 pub mod Moves
 pub mod Coupled
 pub mod Laws

@@ -1,6 +1,8 @@
 -- What a tick does, run by run.
 --
--- Place-of-work  ledger, chip and tables as they stand at one moment of a tick
+-- Desk           what a recycle works on: the history so far, the map, the chip's pages, and where the next search starts
+-- Recycle        a block worth emptying is emptied and erased
+-- free-on        the free pages of the chip
 -- Walk           how far a tick has come: the seat that it is at, and the runs, recycles, copies and tries so far.
 --                It takes the seats in ascending order; each is entered, makes its runs and is ended before the next
 -- A run asks first whether the free pages exceed the tokens by the yield; if not, a block with at least that many

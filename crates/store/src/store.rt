@@ -5,6 +5,7 @@ use pages::Tables;
 
 // A store is put together from any chip and any chooser, which it holds by value. The ledger has the seats
 // and the tokens, the tables have the page map and what is counted of the chip's pages.
+#[derive(Drop)]
 pub struct Store<C: Chip, H: Chooser> {
     pub(crate) chip: C,
     pub(crate) chooser: H,
