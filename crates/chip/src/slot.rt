@@ -3,7 +3,7 @@ ghost use mathlib.Core.Path.{_≡_};
 ghost use Prim.Native.Nat.{ℕ, _+_, _-_, _≤_, _<_, _^_};
 ghost use lib.ListN.{length, replicate};
 ghost use Rattle.chip.specs.Calls.{kind-of, fetched-page};
-ghost use Rattle.chip.specs.Slot.{wide, header, slot-of, two, all-ones, is-written, page-of, fetched-onto};
+ghost use Rattle.chip.specs.Slot.{wide, high, low, header, slot-of, two, all-ones, is-written, page-of, fetched-onto};
 use crate::words::Kind;
 use crate::words::Refusal;
 
@@ -60,32 +60,26 @@ pub(crate) fn kind(slot: &[u8], size: usize) -> Kind
     }
 }
 
+fn big_endian(n: usize) -> (u8, u8)
+    requires { ⌜ n < 2 ^ 16 ⌝ }
+    ensures { λ r. ⌜ r ≡ (high n, low n) ⌝ }
+{
+    ((n / 256) as u8, (n % 256) as u8)
+}
+
 fn header(long: usize, label: u16) -> [u8; 16]
     requires { ⌜ long < 2 ^ 16 ⌝ }
     ensures { λ r. ⌜ r ≡ header long label ⌝ }
 {
-    let long_high = (long / 256) as u8;
-    let long_low = (long % 256) as u8;
-    let label_high = (label / 256) as u8;
-    let label_low = (label % 256) as u8;
-    [
-        VERSION,
-        long_high,
-        long_low,
-        label_high,
-        label_low,
-        BLANK,
-        BLANK,
-        BLANK,
-        BLANK,
-        BLANK,
-        BLANK,
-        BLANK,
-        BLANK,
-        BLANK,
-        BLANK,
-        BLANK,
-    ]
+    let (long_high, long_low) = big_endian(long);
+    let (label_high, label_low) = big_endian(label as usize);
+    let mut front = [BLANK; 16];
+    front[0] = VERSION;
+    front[1] = long_high;
+    front[2] = long_low;
+    front[3] = label_high;
+    front[4] = label_low;
+    front
 }
 
 // Writes the whole slot, whatever it held.
