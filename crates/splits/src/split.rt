@@ -11,9 +11,11 @@ pub struct Split {
     pub watts: u16,
 }
 
+// A split as it is stored: both numbers big-endian.
+pub type Stored = [u8; 4];
+
 impl Split {
-    // Four bytes, big-endian.
-    pub fn bytes(self) -> [u8; 4]
+    pub fn bytes(self) -> Stored
         ensures { λ r. ⌜ r ≡ self .tenths / 256 ∷ self .tenths % 256 ∷ self .watts / 256 ∷ self .watts % 256 ∷ [] ⌝ }
     {
         [
@@ -24,7 +26,7 @@ impl Split {
         ]
     }
 
-    pub fn of(bytes: &[u8; 4]) -> Split
+    pub fn of(bytes: &Stored) -> Split
         ensures tenths { λ r. ⌜ r .tenths ≡ getD (now (bytes .entry)) 0 0 * 256 + getD (now (bytes .entry)) 1 0 ⌝ }
         ensures watts { λ r. ⌜ r .watts ≡ getD (now (bytes .entry)) 2 0 * 256 + getD (now (bytes .entry)) 3 0 ⌝ }
     {
