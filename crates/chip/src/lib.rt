@@ -1,4 +1,6 @@
 // Flash chips behind one meaning: a list of pages and an allowance of page writes that may still fail.
+#![tactic(auto)]
+
 mod chip;
 mod flawed;
 mod gaps;

@@ -1,4 +1,6 @@
 // Worked cases of the crate `chip`: slots written out byte by byte, failing programs counted one by one, pairs of pairs.
+#![tactic(auto)]
+
 #[cfg(test)]
 mod flaws;
 #[cfg(test)]

@@ -1,5 +1,7 @@
 // An evening on a gym console: a rower's splits and a club ranking are saved on a chip whose page writes fail
 // now and then, while the collector wins pages back on the clock.
+#![tactic(auto)]
+
 mod evening;
 mod told;
 

@@ -1,4 +1,6 @@
 // Seats and tokens: plain numbers, no chip.
+#![tactic(auto)]
+
 mod admission;
 mod calls;
 mod clock;

@@ -1,3 +1,5 @@
 // Examples of the ledger, call by call.
+#![tactic(auto)]
+
 #[cfg(test)]
 mod tests;

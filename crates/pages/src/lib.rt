@@ -1,5 +1,7 @@
 // The page map over any chip: where each page number stands, which pages are free and dead, and the work of
 // writing a page and of emptying a block.
+#![tactic(auto)]
+
 mod copy;
 mod emptied;
 mod geometry;

@@ -1,4 +1,6 @@
 // The plan of a seat, and the yield rule: plain numbers, no chip and no store.
+#![tactic(auto)]
+
 mod exports;
 mod figures;
 mod numbers;

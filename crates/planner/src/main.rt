@@ -1,4 +1,6 @@
 // Reads a sheet of jobs from standard input and prints the sheet of plans.
+#![tactic(auto)]
+
 use sheet::plan_sheet;
 use std::io::{Read, Write};
 

@@ -1,4 +1,6 @@
 // Scripts: lines of words, numbers in words, and numbers in answers.
+#![tactic(auto)]
+
 mod numbers;
 mod readers;
 mod reading;

@@ -1,4 +1,6 @@
 // A sheet of jobs, a line each, answered by a sheet of plans.
+#![tactic(auto)]
+
 mod sheets;
 #[cfg(test)]
 mod tests;

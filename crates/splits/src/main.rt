@@ -1,4 +1,6 @@
 // Keeps the splits of a rowing workout on a flawed chip until a block is full, reads them back, and erases.
+#![tactic(auto)]
+
 mod split;
 
 use chip::{Chip, Flawed, Kind};

@@ -1,4 +1,6 @@
 // The store: seats, permits, saves and a collector on the clock, over any chip and any chooser.
+#![tactic(auto)]
+
 mod calls;
 mod opening;
 mod reads;

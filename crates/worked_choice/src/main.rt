@@ -1,4 +1,6 @@
 // Shows which block greedy and the hand name, one list of dead pages after another.
+#![tactic(auto)]
+
 use chooser::{Greedy, Hand, Question, block_to_empty};
 use std::io;
 

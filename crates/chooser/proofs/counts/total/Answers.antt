@@ -5,16 +5,16 @@ use Rattle.std.proofs.lemmas.Bool.Decides.{nat_tests}
 use Rattle.chooser.proofs.Askable.{askable_from, not_long, not_above}
 use Rattle.chooser.proofs.Totals.{some_total, no_total}
 use Rattle.chooser.proofs.counts.total.Goals as goal
-use Rattle.chooser.proofs.counts.total.Goals.{then-block-ge-MOST-BLOCKS-via-then-block-ge-MOST-BLOCKS as many, then-block-ge-MOST-BLOCKS-via-else-block-ge-MOST-BLOCKS+then-count-gt-MOST-DEAD as above}
+use Rattle.chooser.proofs.counts.total.Goals.{then-block-ge-MOST_BLOCKS-via-then-block-ge-MOST_BLOCKS as many, then-block-ge-MOST_BLOCKS-via-else-block-ge-MOST_BLOCKS+then-count-gt-MOST_DEAD as above}
 
-pub returns-then-block-ge-MOST-BLOCKS : goal.returns-then-block-ge-MOST-BLOCKS
-returns-then-block-ge-MOST-BLOCKS c =
+pub returns-then-block-ge-MOST_BLOCKS : goal.returns-then-block-ge-MOST_BLOCKS
+returns-then-block-ge-MOST_BLOCKS c =
     let dead = c.args.dead.now in
     let here : c.loop-block.block < length dead = c.loop-block-test.true in
     no_total dead
-    (elim c.then-block-ge-MOST-BLOCKS.branch [
+    (elim c.then-block-ge-MOST_BLOCKS.branch [
       | many w ↦ not_long dead (omega arith)
-      | above w ↦ not_above dead c.loop-block.block here w.if-count-gt-MOST-DEAD.taken
+      | above w ↦ not_above dead c.loop-block.block here w.if-count-gt-MOST_DEAD.true
     ])
 
 pub loop-block-init : goal.loop-block-init

@@ -6,6 +6,6 @@ use Rattle.sheet.proofs.sheets.plan_sheet.Goals as goal
 pub returns : goal.returns
 returns c =
     record {
-      bytes = c.answer-all.ensures;
-      law = IfOk-weaker c.answer-all.result _ _ (λ out is. sheet_answers c.args.input.now (vec_items out) is) c.answer-all.ensures;
+      bytes = c.answer_all.ensures;
+      law = IfOk-weaker c.answer_all.result _ _ (λ out is. sheet_answers c.args.input.now (vec_items out) is) c.answer_all.ensures;
     }

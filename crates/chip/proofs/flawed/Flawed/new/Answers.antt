@@ -19,9 +19,9 @@ returns-in-Some c =
     record {
       means =
           ap (λ s. means_of s left p.memory.now) c.over.ensures.size
-          ∙ ap (made c.args.blocks c.args.pages-per-block c.args.page_size left) c.over.ensures.bytes
-          ∙ ap (λ k. made c.args.blocks c.args.pages-per-block c.args.page_size k memory) g.1
-          ∙ sym (cond-true (good_gaps gaps) (made c.args.blocks c.args.pages-per-block c.args.page_size (length gaps) memory) nothing g.0);
+          ∙ ap (made c.args.blocks c.args.pages_per_block c.args.page_size left) c.over.ensures.bytes
+          ∙ ap (λ k. made c.args.blocks c.args.pages_per_block c.args.page_size k memory) g.1
+          ∙ sym (cond-true (good_gaps gaps) (made c.args.blocks c.args.pages_per_block c.args.page_size (length gaps) memory) nothing g.0);
       gaps = g.2 ∙ sym (cond-true (good_gaps gaps) gaps [] g.0);
       bytes = c.over.ensures.bytes;
       layout = layout;
@@ -39,7 +39,7 @@ returns-in-None c =
       means =
           ap (λ s. means_of s left p.memory.now) c.over-in-None.ensures.size
           ∙ made_zeros left p.memory.now
-          ∙ sym (cond-false (good_gaps gaps) (made c.args.blocks c.args.pages-per-block c.args.page_size (length gaps) memory) nothing bad);
+          ∙ sym (cond-false (good_gaps gaps) (made c.args.blocks c.args.pages_per_block c.args.page_size (length gaps) memory) nothing bad);
       gaps = c.none.ensures ∙ sym (cond-false (good_gaps gaps) gaps [] bad);
       bytes = c.over-in-None.ensures.bytes;
       layout = layout;

@@ -20,20 +20,20 @@ few n per size long b w f l e =
       omega (arith, mul-le per w 32 600 y (omega arith)),
     )
 
-pub overflow-mul-from-2 : goal.overflow-mul-from-2
-overflow-mul-from-2 c =
+pub overflow_mul-from-2 : goal.overflow_mul-from-2
+overflow_mul-from-2 c =
     let s = c.args.self.now.size in
     let f = fit s.blocks s.pages_per_block s.page_size _ (sym c.if-not-fit.ensures) in
     omega (arith, few s.blocks s.pages_per_block s.page_size _ c.args.block c.wide-wide.result f c.if-block-self.false c.wide-wide.ensures)
 
-pub overflow-mul-result : goal.overflow-mul-result
-overflow-mul-result c =
+pub overflow_mul-result : goal.overflow_mul-result
+overflow_mul-result c =
     let s = c.args.self.now.size in
     let f = fit s.blocks s.pages_per_block s.page_size _ (sym c.if-not-fit.ensures) in
     omega (arith, few s.blocks s.pages_per_block s.page_size _ c.args.block c.wide-wide.result f c.if-block-self.false c.wide-wide.ensures)
 
-pub overflow-add-result : goal.overflow-add-result
-overflow-add-result c =
+pub overflow_add-result : goal.overflow_add-result
+overflow_add-result c =
     let s = c.args.self.now.size in
     let f = fit s.blocks s.pages_per_block s.page_size _ (sym c.if-not-fit.ensures) in
     omega (arith, few s.blocks s.pages_per_block s.page_size _ c.args.block c.wide-wide.result f c.if-block-self.false c.wide-wide.ensures)

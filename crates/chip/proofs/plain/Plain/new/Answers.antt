@@ -8,7 +8,7 @@ pub returns : goal.returns
 returns c =
     let p = c.over.result in
     record {
-      means = ap (λ s. means_of s 0 p.memory.now) c.over.ensures.size ∙ ap (made c.args.blocks c.args.pages-per-block c.args.page_size 0) c.over.ensures.bytes;
+      means = ap (λ s. means_of s 0 p.memory.now) c.over.ensures.size ∙ ap (made c.args.blocks c.args.pages_per_block c.args.page_size 0) c.over.ensures.bytes;
       bytes = c.over.ensures.bytes;
       layout = layout;
     }

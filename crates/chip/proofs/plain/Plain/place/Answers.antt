@@ -20,8 +20,8 @@ returns c =
     let p = c.args.self.now in
     within p.size 0 p.memory.now (sym c.if-not-fit.ensures) c.args.page c.wide.result c.if-page-pages.false c.wide.ensures
 
-pub overflow-mul-result : goal.overflow-mul-result
-overflow-mul-result c =
+pub overflow_mul-result : goal.overflow_mul-result
+overflow_mul-result c =
     let s = c.args.self.now.size in
     let small = (fit s.blocks s.pages_per_block s.page_size _ (sym c.if-not-fit.ensures)).few_bytes in
     omega (arith, mul-lt c.args.page c.wide.result 65536 600 (omega arith) (omega arith))

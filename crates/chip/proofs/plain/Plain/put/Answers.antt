@@ -7,7 +7,7 @@ use Rattle.chip.proofs.plain.Plain.put.Goals as goal
 pub returns : goal.returns
 returns c =
     let p = c.args.self.now in
-    let ready = c.in-ok-at.ensures in
+    let ready = c.in_ok-at.ensures in
     let at = ready.1 in
     let size = p.size.page_size in
     let new = slot_of size c.args.label c.args.bytes.now in (
@@ -19,7 +19,7 @@ returns c =
         fills = length_slot size c.args.label c.args.bytes.now ready.2;
         size = refl;
         bytes =
-            put_slot size c.args.page c.in-ok-at.at c.wide.result c.write.new.slot new p.memory.now at.begins c.wide.ensures
+            put_slot size c.args.page c.in_ok-at.at c.wide.result c.write.new.slot new p.memory.now at.begins c.wide.ensures
             c.write.ensures;
       },
     )

@@ -7,9 +7,9 @@ use Rattle.chip.proofs.plain.Plain.read.Goals as goal
 pub returns : goal.returns
 returns c =
     let p = c.args.self.now in
-    let at = c.in-ok-at.ensures in
+    let at = c.in_ok-at.ensures in
     let room = length c.args.buffer.now in
-    let read = read_slot p.size 0 p.memory.now at.whole c.args.page c.in-ok-at.at c.wide.result at.begins c.wide.ensures in
+    let read = read_slot p.size 0 p.memory.now at.whole c.args.page c.in_ok-at.at c.wide.result at.begins c.wide.ensures in
     record {
       value =
           c.fetch.ensures.value

@@ -2,10 +2,10 @@ use Rattle.std.proofs.Common.{arith}
 use Rattle.ledger.proofs.Facts.{fair_of}
 use Rattle.ledger.proofs.ledger.Ledger.draw.Goals as goal
 
-pub invariant-of-self : goal.invariant-of-self
-invariant-of-self c =
-    let b = fair_of c.args.self.now in (
-      ∣ record {
+pub invariant_of-self : goal.invariant_of-self
+invariant_of-self c =
+    let b = fair_of c.args.self.now in record {
+      fair = ∣ record {
         eight = b.eight;
         each = b.each;
         lent_out = b.lent_out;
@@ -15,6 +15,5 @@ invariant-of-self c =
         small_blocks = b.small_blocks;
         few_blocks = b.few_blocks;
         rule = b.rule;
-      } ∣₁,
-      tt,
-    )
+      } ∣₁;
+    }

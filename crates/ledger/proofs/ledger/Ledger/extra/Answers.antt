@@ -9,19 +9,19 @@ use Rattle.ledger.proofs.Facts.{fair_of}
 use Rattle.ledger.proofs.Jobs.{some_run}
 use Rattle.ledger.proofs.Sums.{extra_more}
 use Rattle.ledger.proofs.ledger.Ledger.extra.Goals as goal
-use Rattle.ledger.proofs.ledger.Ledger.extra.Goals.{then-is-in-use, else-is-in-use}
+use Rattle.ledger.proofs.ledger.Ledger.extra.Goals.{then-is_in_use, else-is_in_use}
 
-job : (c : goal.Then-is-in-use) → JobFair c.args.self.now.frame (get_or c.args.self.now.seats c.loop-seat.seat-index nobody)
-job c = ((fair_of c.args.self.now).each c.loop-seat.seat-index c.loop-seat-test.true).used (sym c.if-is-in-use.ensures)
+job : (c : goal.Then-is_in_use) → JobFair c.args.self.now.frame (get_or c.args.self.now.seats c.loop-seat.seat-index nobody)
+job c = ((fair_of c.args.self.now).each c.loop-seat.seat-index c.loop-seat-test.true).used (sym c.if-is_in_use.ensures)
 
-pub overflow-sub-sum : goal.overflow-sub-sum
-overflow-sub-sum c = some_run (job c)
+pub overflow_sub-sum : goal.overflow_sub-sum
+overflow_sub-sum c = some_run (job c)
 
-pub overflow-mul-sum : goal.overflow-mul-sum
-overflow-mul-sum c = let few = job_adds_few (fair_of c.args.self.now) (get_or c.args.self.now.seats c.loop-seat.seat-index nobody) (job c) in omega arith
+pub overflow_mul-sum : goal.overflow_mul-sum
+overflow_mul-sum c = let few = job_adds_few (fair_of c.args.self.now) (get_or c.args.self.now.seats c.loop-seat.seat-index nobody) (job c) in omega arith
 
-pub overflow-add-sum : goal.overflow-add-sum
-overflow-add-sum c =
+pub overflow_add-sum : goal.overflow_add-sum
+overflow_add-sum c =
     let few = job_adds_few (fair_of c.args.self.now) (get_or c.args.self.now.seats c.loop-seat.seat-index nobody) (job c) in
     let so_far = c.loop-seat.invariant.1 in
     omega arith
@@ -36,16 +36,16 @@ loop-seat-preserved c =
     let more = extra_more l.frame.alpha l.seats i there in
     let so_far = c.loop-seat.invariant.0 in
     let bound = c.loop-seat.invariant.1 in
-    elim c.if-is-in-use.branch [
-      | then-is-in-use w ↦ (
-          let used : in_use s ≡ true = sym w.if-is-in-use.ensures in
+    elim c.if-is_in_use.branch [
+      | then-is_in_use w ↦ (
+          let used : in_use s ≡ true = sym w.if-is_in_use.ensures in
           let part = cond-true (in_use s) ((s.plan.runs - 1) * l.frame.alpha) 0 used in
           let few = job_adds_few b s ((b.each i c.loop-seat-test.true).used used) in
           let sum = w.sum-is in
           (omega arith, omega arith)
           )
-      | else-is-in-use w ↦ (
-          let part = cond-false (in_use s) ((s.plan.runs - 1) * l.frame.alpha) 0 (sym w.if-is-in-use.ensures) in
+      | else-is_in_use w ↦ (
+          let part = cond-false (in_use s) ((s.plan.runs - 1) * l.frame.alpha) 0 (sym w.if-is_in_use.ensures) in
           let sum = w.sum-is in
           (omega arith, omega arith)
           )

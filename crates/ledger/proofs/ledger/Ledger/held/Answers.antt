@@ -6,14 +6,14 @@ use Rattle.ledger.proofs.Facts.{fair_of}
 use Rattle.ledger.proofs.Sums.{held_more}
 use Rattle.ledger.proofs.ledger.Ledger.held.Goals as goal
 
-pub overflow-add-sum : goal.overflow-add-sum
-overflow-add-sum c =
+pub overflow_add-sum : goal.overflow_add-sum
+overflow_add-sum c =
     let b = fair_of c.args.self.now in
     let few = holds_few b c.loop-seat.seat-index (omega (arith, b.eight)) in
     omega arith
 
-pub overflow-add-sum-in-loop-seat : goal.overflow-add-sum-in-loop-seat
-overflow-add-sum-in-loop-seat c =
+pub overflow_add-sum-in-loop-seat : goal.overflow_add-sum-in-loop-seat
+overflow_add-sum-in-loop-seat c =
     let b = fair_of c.args.self.now in
     let few = holds_few b c.loop-seat.seat-index (omega (arith, b.eight)) in
     let so_far = c.loop-seat.invariant.1 in

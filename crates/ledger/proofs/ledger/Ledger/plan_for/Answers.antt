@@ -14,14 +14,14 @@ as_planned c = sym c.of.ensures.plan ∙ c.in-Some.is
 sized : (c : In-Some) → Sized c.args.self.now.frame.alpha c.args.period c.args.writes c.in-Some.plan
 sized c = planned_sized _ _ _ c.in-Some.plan (as_planned c) (c.of.ensures.law c.in-Some.plan c.in-Some.is)
 
-pub overflow-add-plan : goal.overflow-add-plan
-overflow-add-plan c =
-    let few = (sized (goal.at.overflow-add-plan c).In-Some).writes_few in
+pub overflow_add-plan : goal.overflow_add-plan
+overflow_add-plan c =
+    let few = (sized (goal.at.overflow_add-plan c).In-Some).writes_few in
     let b = fair_of c.args.self.now in
     omega (arith, b.small_blocks)
 
-pub rule-with-requires : goal.rule-with-requires
-rule-with-requires c = let s = sized (goal.at.rule-with-requires c).In-Some in record { some = s.runs_some; few = s.runs_few }
+pub rule_with-requires : goal.rule_with-requires
+rule_with-requires c = let s = sized (goal.at.rule_with-requires c).In-Some in record { some = s.runs_some; few = s.runs_few }
 
 pub returns : goal.returns
 returns c =
@@ -31,7 +31,7 @@ returns c =
     let b = books_of c.args.self.now in
     let plan = c.in-Some.plan in
     let room : plan.writes + collector_share b.frame ≤ b.pool = omega arith in
-    let rule = sym c.if-not-rule-with.ensures in
+    let rule = sym c.if-not-rule_with.ensures in
     let asked = afforded b (planned b.frame.alpha c.args.period c.args.writes) plan (as_planned here) room rule in
     record {
       answer = ap (λ (p : Plan). Ok p) (sym s.is) ∙ ap (λ q. answer q (plan_of b.frame.alpha c.args.period c.args.writes)) (sym asked);

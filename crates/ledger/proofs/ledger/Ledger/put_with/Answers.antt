@@ -1,4 +1,4 @@
 use Rattle.ledger.proofs.ledger.Ledger.put_with.Goals as goal
 
-pub invariant-of-self : goal.invariant-of-self
-invariant-of-self c = (∣ c.requires.fair ∣₁, tt)
+pub invariant_of-self : goal.invariant_of-self
+invariant_of-self c = record { fair = ∣ c.requires.fair ∣₁ }

@@ -6,7 +6,7 @@ pub returns : goal.returns
 returns c =
     let fair = fair_of c.args.self.now in
     record {
-      books = c.add-run.ensures;
-      tokens = run_adds fair c.args.seat c.add-run.ensures;
-      settled = run_unsettles fair c.args.seat c.add-run.ensures;
+      books = c.add_run.ensures;
+      tokens = run_adds fair c.args.seat c.add_run.ensures;
+      settled = run_unsettles fair c.args.seat c.add_run.ensures;
     }

@@ -5,4 +5,4 @@ pub returns-then-self : goal.returns-then-self
 returns-then-self c = let none = no_words c.args.self.now.bytes.now c.args.self.now.place c.if-self.true in (none, none)
 
 pub returns : goal.returns
-returns c = word_out c.args.self.now.bytes.now c.args.self.now.place c.end-of-end.result c.if-self.false c.end-of-end.ensures.part
+returns c = word_out c.args.self.now.bytes.now c.args.self.now.place c.end_of-end.result c.if-self.false c.end_of-end.ensures.part

@@ -8,7 +8,7 @@ use Rattle.chip.proofs.flawed.calls.FlawedChip.program.Goals as goal
 pub returns-then-strike : goal.returns-then-strike
 returns-then-strike c =
     let f = c.args.self.now in
-    let done = c.in-ok-spoil.ensures in
+    let done = c.in_ok-spoil.ensures in
     let hit = c.strike.ensures.value in
     let struck = sym hit ∙ c.if-strike.true in
     let worn = c.wear.ensures in
@@ -23,7 +23,7 @@ returns-then-strike c =
 pub returns : goal.returns
 returns c =
     let f = c.args.self.now in
-    let done = c.in-ok-put.ensures in
+    let done = c.in_ok-put.ensures in
     let hit = c.strike.ensures.value in
     let passed = sym hit ∙ c.if-strike.false in
     let worn = c.wear-2.ensures in

@@ -9,7 +9,7 @@ use Rattle.chip.proofs.plain.calls.PlainChip.program.Goals as goal
 pub returns : goal.returns
 returns c =
     let p = c.args.self.now in
-    let done = c.in-ok-put.ensures in
+    let done = c.in_ok-put.ensures in
     let size = p.size.page_size in
     record {
       effect = (
