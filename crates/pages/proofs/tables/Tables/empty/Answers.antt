@@ -23,21 +23,21 @@ loop-i-preserved g c = λ can.
     let t = c.args.self.now in
     let b = c.args.block in
     let n = g.C.Chip.means c.loop-i.chip in
-    let o = g.C.Chip.means c.copy-one.new.chip in
+    let o = g.C.Chip.means c.copy_one.new.chip in
     let d = c.loop-i.done in
     let made = c.in-Some.made in
     let e = c.loop-i.invariant can in
     let within : c.loop-i.i < t.geometry.pages_per_block = omega arith in
     let ready = can_copy m t b c.loop-i.i d.copies d.tries n c.loop-i.self e within (length c.args.buffer.now) can in
     let done = c.in-Some.ensures (subst (λ x. CanCopy n c.loop-i.self b (b * t.geometry.pages_per_block + c.loop-i.i) x) (sym c.loop-i.auto.buffer) ready) in
-    let new = counted m t b c.loop-i.i d n c.loop-i.self made o c.copy-one.new.self e within done in
+    let new = counted m t b c.loop-i.i d n c.loop-i.self made o c.copy_one.new.self e within done in
     let few = copies_few m t b c.loop-i.i d.copies d.tries n c.loop-i.self e within in
     let small : d.copies ≤ 31 = omega (arith, few, within, t.geometry.sized.3) in
     let more = added_few d.copies made small in
     let allowed = few_failures m (g.C.Chip.shaped c.args.chip.now) in
-    let fits = few_tries m t b (c.loop-i.i + 1) (added d made).copies (added d made).tries o c.copy-one.new.self new allowed more in
+    let fits = few_tries m t b (c.loop-i.i + 1) (added d made).copies (added d made).tries o c.copy_one.new.self new allowed more in
     let is : c.with-done.result ≡ added d made = c.with-done.ensures (omega (arith, small)) fits in
-    subst (λ (x : Emptied). EmptiedTo m t b (c.loop-i.i + 1) x.copies x.tries o c.copy-one.new.self) (sym is) new
+    subst (λ (x : Emptied). EmptiedTo m t b (c.loop-i.i + 1) x.copies x.tries o c.copy_one.new.self) (sym is) new
 
 pub returns : goal.returns
 returns g c = λ can.

@@ -15,7 +15,7 @@ loop-looked-preserved g c = (
       let passed = over c.args.self.now.geometry.pages_per_block c.args.skip in
       let inv = c.loop-looked.invariant.2 sized in
       let taken : false ≡ (not (passed c.loop-looked.page) && is_free (page_at m c.loop-looked.page)) =
-      c.if-may-take.ensures.value ∙ ap (λ (x : Meaning). not (passed c.loop-looked.page) && is_free (page_at x c.loop-looked.page)) c.loop-looked.invariant.1 in
+      c.if-may_take.ensures.value ∙ ap (λ (x : Meaning). not (passed c.loop-looked.page) && is_free (page_at x c.loop-looked.page)) c.loop-looked.invariant.1 in
       let step = looked_more passed m.pages c.pages-total.result c.args.self.now.start (sized.long ∙ sym c.pages-total.ensures) (omega arith)
       c.loop-looked.looked c.loop-looked.page (omega arith) inv.0 inv.1 taken in
       (c.after-page.ensures ∙ ap (λ (n : ℕ). next_page n c.loop-looked.page) (sym c.pages-total.ensures) ∙ step.0, step.1)),

@@ -24,8 +24,8 @@ returns-in-Err g c = λ can.
     absurd (trying_refused n c.loop-page.self c.args.skip c.args.label (length c.args.bytes.now) c.in-Some.page _ y.can (place.found y.can.tied.sized)
     (ap (λ (x : Meaning). asks_program x c.in-Some.page (length c.args.bytes.now)) (sym place.same) ∙ asked))
 
-pub overflow-add-tries : goal.overflow-add-tries
-overflow-add-tries g c = omega (arith, c.loop-page.invariant.0, few_failures (g.C.Chip.means c.args.chip.now) (g.C.Chip.shaped c.args.chip.now))
+pub overflow_add-tries : goal.overflow_add-tries
+overflow_add-tries g c = omega (arith, c.loop-page.invariant.0, few_failures (g.C.Chip.means c.args.chip.now) (g.C.Chip.shaped c.args.chip.now))
 
 pub returns-then-good : goal.returns-then-good
 returns-then-good g c = λ can.

@@ -4,6 +4,6 @@ use Rattle.store.proofs.store.Store.notice.Goals as goal
 pub returns : goal.returns
 returns g c =
     record {
-      effect = c.notice-inner.ensures;
-      promise = entered_notice g.C.Chip.means c.args.self.now c.notice-inner.new.self c.args.seat c.notice-inner.result (λ _. c.notice-inner.ensures);
+      effect = c.notice_inner.ensures;
+      promise = entered_notice g.C.Chip.means c.args.self.now c.notice_inner.new.self c.args.seat c.notice_inner.result (λ _. c.notice_inner.ensures);
     }

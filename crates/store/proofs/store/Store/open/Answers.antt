@@ -4,6 +4,6 @@ use Rattle.store.proofs.store.Store.open.Goals as goal
 pub returns : goal.returns
 returns g c =
     record {
-      effect = c.open-inner.ensures;
-      promise = entered_open g.C.Chip.means c.args.self.now c.open-inner.new.self c.args.numbers c.args.alpha c.args.pool c.open-inner.result (λ _. c.open-inner.ensures);
+      effect = c.open_inner.ensures;
+      promise = entered_open g.C.Chip.means c.args.self.now c.open_inner.new.self c.args.numbers c.args.alpha c.args.pool c.open_inner.result (λ _. c.open_inner.ensures);
     }

@@ -11,9 +11,9 @@ pub returns-in-Ok : goal.returns-in-Ok
 returns-in-Ok g c = λ none sound.
     let s = c.args.self.now in
     saves_on g.C.Chip.means s (record { chip = c.write.new.chip; chooser = s.chooser; is_open = s.is_open; ledger = c.spend.new.self; tables = c.write.new.self })
-    c.args.seat c.args.number c.args.bytes.now none sound c.in-Some.tries c.pay-for.new.ledger c.saturating-sub.result c.saturating-sub.ensures c.in-Some.ensures refl refl c.pay-for.ensures c.spend.ensures.books
+    c.args.seat c.args.number c.args.bytes.now none sound c.in-Some.tries c.pay_for.new.ledger c.saturating_sub.result c.saturating_sub.ensures c.in-Some.ensures refl refl c.pay_for.ensures c.spend.ensures.books
 
 pub returns-in-Err : goal.returns-in-Err
 returns-in-Err g c = λ none sound.
     let s = c.args.self.now in
-    absurd (never_unpaid g.C.Chip.means s s c.args.seat c.args.number c.args.bytes.now none c.pay-for.new.ledger c.saturating-sub.result _ c.pay-for.ensures c.in-Err.ensures.answer)
+    absurd (never_unpaid g.C.Chip.means s s c.args.seat c.args.number c.args.bytes.now none c.pay_for.new.ledger c.saturating_sub.result _ c.pay_for.ensures c.in-Err.ensures.answer)

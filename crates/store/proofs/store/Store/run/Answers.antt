@@ -10,10 +10,10 @@ use Rattle.store.proofs.store.Store.run.Goals as goal
 pub returns-then-from-wanted : goal.returns-then-from-wanted
 returns-then-from-wanted g c = λ n can.
     let s = c.args.self.now in
-    let k = c.args.so-far in
+    let k = c.args.so_far in
     let m = g.C.Chip.means s.chip in
     let small = small_counts n k m can.few can.little in
-    let is : c.with-run.result ≡ one_run k = c.with-run.ensures small.0 in
+    let is : c.with_run.result ≡ one_run k = c.with_run.ensures small.0 in
     let wide : tokens (books_of s.ledger) + (books_of s.ledger).frame.alpha ≤ all_free m = omega (arith, can.sound.tied.free_pages) in
     subst (λ l. Ran g.C.Chip.means n c.args.seat k s l (record { chip = s.chip; chooser = s.chooser; is_open = s.is_open; ledger = c.ran.new.self; tables = s.tables })) (sym is)
     (ran_free g.C.Chip.means n c.args.seat k s can c.ran.new.self c.ran.ensures.books wide)
@@ -23,20 +23,20 @@ returns-in-None g c = λ n can.
     let s = c.args.self.now in
     let m = g.C.Chip.means s.chip in
     let short : all_free m < tokens (books_of s.ledger) + (books_of s.ledger).frame.alpha = omega (arith, can.sound.tied.free_pages) in
-    c.in-None.ensures (books_of s.ledger).frame.alpha (ready g.C.Chip.means n c.args.seat c.args.so-far s can short)
+    c.in-None.ensures (books_of s.ledger).frame.alpha (ready g.C.Chip.means n c.args.seat c.args.so_far s can short)
 
 pub returns : goal.returns
 returns g c = λ n can.
     let s = c.args.self.now in
-    let k = c.args.so-far in
+    let k = c.args.so_far in
     let means = g.C.Chip.means in
     let m = means s.chip in
     let d = c.in-Some.done in
     let short : all_free m < tokens (books_of s.ledger) + (books_of s.ledger).frame.alpha = omega (arith, can.sound.tied.free_pages) in
     let r = c.in-Some.ensures (books_of s.ledger).frame.alpha (ready means n c.args.seat k s can short) in
-    let paid : books_of c.pay-for.new.ledger ≡ paid_for (d.tries - d.copies) (books_of s.ledger) = c.pay-for.ensures ∙ ap (λ x. paid_for x (books_of s.ledger)) c.saturating-sub.ensures in
+    let paid : books_of c.pay_for.new.ledger ≡ paid_for (d.tries - d.copies) (books_of s.ledger) = c.pay_for.ensures ∙ ap (λ x. paid_for x (books_of s.ledger)) c.saturating_sub.ensures in
     let small = small_counts n k m can.few can.little in
-    let more = small_recycle means n c.args.seat k s can short c.recycle.new.chip c.recycle.new.chooser d c.recycle.new.self r c.pay-for.new.ledger c.ran-2.new.self paid c.ran-2.ensures.books in
-    let is : c.with-recycle.result ≡ one_recycle k d = c.with-recycle.ensures small.0 small.1 more.0 more.1 in
+    let more = small_recycle means n c.args.seat k s can short c.recycle.new.chip c.recycle.new.chooser d c.recycle.new.self r c.pay_for.new.ledger c.ran-2.new.self paid c.ran-2.ensures.books in
+    let is : c.with_recycle.result ≡ one_recycle k d = c.with_recycle.ensures small.0 small.1 more.0 more.1 in
     subst (λ l. Ran means n c.args.seat k s l (record { chip = c.recycle.new.chip; chooser = c.recycle.new.chooser; is_open = s.is_open; ledger = c.ran-2.new.self; tables = c.recycle.new.self })) (sym is)
-    (ran_recycled means n c.args.seat k s can short c.recycle.new.chip c.recycle.new.chooser d c.recycle.new.self r c.pay-for.new.ledger c.ran-2.new.self paid c.ran-2.ensures.books)
+    (ran_recycled means n c.args.seat k s can short c.recycle.new.chip c.recycle.new.chooser d c.recycle.new.self r c.pay_for.new.ledger c.ran-2.new.self paid c.ran-2.ensures.books)
