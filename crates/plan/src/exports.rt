@@ -1,13 +1,11 @@
-// The plan as the firmware's C asks for it: one number a call, and 0 where a number is out of its range.
-// include/plan.h declares these.
+// The plan one number a call, and 0 where a number is out of its range: what the crate plan_c exports to C.
 ghost use Rattle.std.specs.Prelude.{◌≡◌, if◌then◌else◌};
 ghost use Rattle.plan.specs.Plan.{in_range, plan_of};
 
 use crate::numbers::Plan;
 
 // The meta-period σ in ticks.
-#[unsafe(no_mangle)]
-pub extern "C" fn plan_meta_period(alpha: u32, period: u32, writes: u32) -> u32
+pub fn plan_meta_period(alpha: u32, period: u32, writes: u32) -> u32
     ensures { result ≡ (if in_range alpha period writes then (plan_of alpha period writes).meta_period else 0) }
 {
     let (meta_period, _, _) = numbers_or_zeros(alpha, period, writes);
@@ -15,8 +13,7 @@ pub extern "C" fn plan_meta_period(alpha: u32, period: u32, writes: u32) -> u32
 }
 
 // How many pages a meta-period may write, W.
-#[unsafe(no_mangle)]
-pub extern "C" fn plan_writes(alpha: u32, period: u32, writes: u32) -> u32
+pub fn plan_writes(alpha: u32, period: u32, writes: u32) -> u32
     ensures { result ≡ (if in_range alpha period writes then (plan_of alpha period writes).writes else 0) }
 {
     let (_, writes, _) = numbers_or_zeros(alpha, period, writes);
@@ -24,8 +21,7 @@ pub extern "C" fn plan_writes(alpha: u32, period: u32, writes: u32) -> u32
 }
 
 // How many runs the collector makes in a meta-period, k.
-#[unsafe(no_mangle)]
-pub extern "C" fn plan_runs(alpha: u32, period: u32, writes: u32) -> u32
+pub fn plan_runs(alpha: u32, period: u32, writes: u32) -> u32
     ensures { result ≡ (if in_range alpha period writes then (plan_of alpha period writes).runs else 0) }
 {
     let (_, _, runs) = numbers_or_zeros(alpha, period, writes);
