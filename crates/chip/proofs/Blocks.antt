@@ -1,6 +1,6 @@
 -- An erase of a pair is an erase of the one chip that the block lies in.
-use Rattle.std.proofs.Common.{◌≡◌, ℕ, suc, ◌+◌, ◌-◌, ◌*◌, ◌<◌, ◌≤◌, Bool, true, false, cond, ltb, List, ◌++◌, length, take, drop, replicate, Ok, Err, sym, refl, ap, ◌∙◌, inl, inr, append_assoc, mul-le-mul_right, suc-mul, add-mul, arith, rules}
-use Rattle.std.proofs.lemmas.List.{length-append, take-append-le, drop-append-le, places, same_lists}
+use Rattle.std.proofs.Common.{◌≡◌, ℕ, suc, ◌+◌, ◌-◌, ◌*◌, ◌<◌, ◌≤◌, true, cond, ltb, List, ◌++◌, length, take, drop, replicate, Ok, Err, sym, ap, ◌∙◌, inl, inr, append_assoc, mul-le-mul_right, suc-mul, add-mul, arith, rules}
+use Rattle.std.proofs.lemmas.List.{take-append-le, drop-append-le, places, same_lists}
 use Rattle.std.proofs.lemmas.Bool.{cases_lt, lt-ltb, le-ltb, cond-true, cond-false}
 use Rattle.chip.specs.declared.words.Refusal.TheVariants.{NotThere}
 use Rattle.chip.specs.Meaning.{Page, free, Meaning, nothing, Shaped}

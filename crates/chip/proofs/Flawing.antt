@@ -1,8 +1,8 @@
 -- What a flawed chip means after a program that was good or that failed.
-use Rattle.std.proofs.Common.{◌≡◌, ℕ, ◌+◌, ◌-◌, ◌*◌, ◌<◌, ◌≤◌, Bool, true, false, cond, not, ◌&&◌, List, [], length, None, Ok, sym, refl, ap, ◌∙◌, subst, arith}
+use Rattle.std.proofs.Common.{◌≡◌, ℕ, ◌-◌, ◌≤◌, true, false, List, length, None, Ok, sym, refl, ap, ◌∙◌, arith}
 use native.Mathlib.Nat.{sub-zero}
 use Rattle.chip.specs.declared.plain.Plain.{Plain}
-use Rattle.chip.specs.Meaning.{Meaning, nothing, spoiled, written}
+use Rattle.chip.specs.Meaning.{Meaning}
 use Rattle.chip.specs.Calls.{asks_program, with_page, Programmed}
 use Rattle.chip.specs.Slot.{slot_of, failed_slot}
 use Rattle.chip.specs.Makes.{means_of, plain_means, Touched}

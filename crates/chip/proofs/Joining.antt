@@ -1,13 +1,13 @@
 -- What is told of a pair is told of the one chip that a call reaches, and what changes there changes in the pair.
-use Rattle.std.proofs.Common.{◌≡◌, ℕ, suc, ◌+◌, ◌-◌, ◌*◌, ◌<◌, ◌≤◌, Bool, true, false, cond, ◌&&◌, eqb, ltb, leb, List, [], ◌++◌, length, get_or, take, drop, set, replicate, Some, None, Ok, Err, Option, Result, sym, refl, ap, ◌∙◌, subst, inl, inr, append_assoc, mul-le-mul_right, suc-mul, add-mul, arith, rules}
-use Rattle.std.proofs.lemmas.List.{length-append, get_or_append_left, get_or-append_right, set-append_left, set-append_right, take-append-le, drop-append-le, places, same_lists}
+use Rattle.std.proofs.Common.{◌≡◌, ℕ, ◌+◌, ◌-◌, ◌<◌, ◌≤◌, Bool, true, false, cond, ◌&&◌, eqb, ltb, leb, List, ◌++◌, length, set, Some, None, Ok, Err, Option, Result, sym, refl, ap, ◌∙◌, inl, inr, arith}
+use Rattle.std.proofs.lemmas.List.{length-append, get_or_append_left, get_or-append_right, set-append_left, set-append_right}
 use Rattle.std.proofs.lemmas.Bool.{cases_lt, lt-ltb, le-ltb, eq-eqb, le-leb, and_from, cond-true, cond-false}
 use Rattle.chip.specs.declared.pair.Front.{Front}
 use Rattle.chip.specs.declared.words.Refusal.{Refusal}
 use Rattle.chip.specs.declared.words.Refusal.TheVariants.{NotThere, WrongKind, TooLong}
-use Rattle.chip.specs.Meaning.{Page, free, spoiled, written, Meaning, nothing, InRange, Shaped, page_at}
-use Rattle.chip.specs.Calls.{is_free, asks_program, with_page, Programmed, kind_of, kind_told, fetched_page, fetched, fetched_into, in_front, data_of, wiped, with_block_free, erase_told, erased}
-use Rattle.chip.specs.Pairs.{joinable, both, joined, Side, neither, in_first, in_second, side_of, block_side, ProgramsOne, ErasesOne, Joins, joins}
+use Rattle.chip.specs.Meaning.{Page, spoiled, written, Meaning, nothing, page_at}
+use Rattle.chip.specs.Calls.{is_free, asks_program, with_page, Programmed, kind_of, kind_told, fetched_page, fetched, fetched_into, in_front, data_of}
+use Rattle.chip.specs.Pairs.{joinable, both, joined, neither, in_first, in_second, side_of, block_side, Joins, joins}
 use Rattle.chip.specs.Fronts.{front_of}
 
 -- ---- the front of a pair

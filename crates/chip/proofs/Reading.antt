@@ -1,13 +1,12 @@
 -- What a few bytes of a slot tell of the page that it means.
-use Rattle.std.proofs.Common.{◌≡◌, ℕ, zero, suc, ◌+◌, ◌-◌, ◌*◌, ◌<◌, ◌≤◌, Bool, true, false, cond, eqb, leb, List, [], ◌∷◌, ◌++◌, length, get_or, take, drop, Ok, Err, sym, refl, ap, ◌∙◌, inl, inr, arith}
+use Rattle.std.proofs.Common.{◌≡◌, ℕ, ◌+◌, ◌<◌, ◌≤◌, Bool, true, false, cond, eqb, leb, List, [], ◌∷◌, ◌++◌, length, get_or, take, drop, Ok, Err, sym, refl, ap, ◌∙◌, inl, inr, arith}
 use lib.Bits.{bit_and}
 use Rattle.std.proofs.lemmas.Nat.{and_le_l, and_le_r}
 use Rattle.std.proofs.lemmas.List.{take_more, length-take, length-drop}
 use Rattle.std.proofs.lemmas.Bool.{cases_eq, cases_Bool, eq-eqb, ne_eqb, le-leb, lt-leb, eqb-true, leb-true, false≢true}
 use Rattle.chip.specs.declared.words.Refusal.TheVariants.{WrongKind, TooLong}
-use Rattle.chip.specs.declared.words.Kind.TheVariants.{Free, Spoiled, Written}
-use Rattle.chip.specs.Meaning.{Page, free, spoiled, written}
-use Rattle.chip.specs.Calls.{kind_of, fetched_page, data_of, in_front}
+use Rattle.chip.specs.Meaning.{free, spoiled, written}
+use Rattle.chip.specs.Calls.{fetched_page, data_of, in_front}
 use Rattle.chip.specs.Slot.{wide, two, all_ones, is_written, page_of}
 
 -- ---- whether every byte is 0xFF

@@ -1,12 +1,12 @@
 -- The laws of the slot layout.
-use Rattle.std.proofs.Common.{◌≡◌, ℕ, zero, suc, ◌+◌, ◌-◌, ◌*◌, ◌/◌, ◌%◌, ◌<◌, ◌≤◌, Bool, true, false, cond, eqb, leb, ◌⊎◌, List, [], ◌∷◌, ◌++◌, length, get_or, take, drop, set, replicate, sym, refl, ap, ◌∙◌, inl, inr, add-zero, add_assoc, mul-le-mul_right, mul_assoc, suc-mul, add-mul, add_comm, one-mul, div-add-mod', zero-mul, add-one, arith}
-use Rattle.std.proofs.lemmas.List.{length-append, length-take, length-drop, length-replicate, length-set, get_or-replicate, get_or_append_left, get_or-append_right, get_or-take, get_or-drop, get_or-set_same, get_or-set_other, take_at, take-replicate, drop-replicate, take_all, drop_at, drop-drop, ext_get_or, same_lists, places}
+use Rattle.std.proofs.Common.{◌≡◌, ℕ, zero, suc, ◌+◌, ◌-◌, ◌*◌, ◌<◌, ◌≤◌, true, List, length, get_or, take, drop, set, replicate, sym, refl, ap, ◌∙◌, inl, inr, add-zero, mul-le-mul_right, suc-mul, add-mul, add_comm, div-add-mod', zero-mul, arith}
+use Rattle.std.proofs.lemmas.List.{length-append, length-replicate, length-set, get_or-set_same, get_or-set_other, take_at, take-replicate, drop-replicate, take_all, drop-drop, ext_get_or, places}
 use Rattle.std.proofs.lemmas.Bool.{cases_eq, cases_lt, le-leb}
 use Rattle.chip.specs.Shaping.{length_pages}
 use Rattle.chip.proofs.Windows.{length_patched, byte_outside, window_below, window_above, window_inside}
 use Rattle.chip.specs.Meaning.{Page, free, spoiled, written}
 use Rattle.chip.specs.Calls.{wiped}
-use Rattle.chip.specs.Slot.{wide, high, low, slot_of, free_slot, failed_slot, two, all_ones, is_written, page_of, slot_at, with_slot, blank_block, pages_of, Layout}
+use Rattle.chip.specs.Slot.{wide, high, low, slot_of, free_slot, failed_slot, all_ones, page_of, slot_at, with_slot, blank_block, pages_of, Layout}
 
 all_ones_blank : (n : ℕ) → all_ones (replicate n 255) ≡ true
 all_ones_blank zero = refl

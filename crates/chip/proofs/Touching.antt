@@ -1,5 +1,5 @@
 -- What a chip in memory means after one of its slots or blocks was touched, for any make.
-use Rattle.std.proofs.Common.{◌≡◌, ℕ, ◌-◌, ◌≤◌, Bool, true, false, cond, eqb, ltb, List, length, Ok, Err, Result, sym, refl, ap, ◌∙◌, subst}
+use Rattle.std.proofs.Common.{◌≡◌, ℕ, ◌-◌, ◌≤◌, Bool, true, false, cond, ltb, List, length, Ok, Err, Result, sym, refl, ap, ◌∙◌, subst}
 use Rattle.std.proofs.lemmas.Bool.{le-ltb, cond-false}
 use Rattle.chip.specs.declared.plain.Plain.{Plain}
 use Rattle.chip.specs.declared.size.Size.{Size}
@@ -7,7 +7,7 @@ use Rattle.chip.specs.declared.words.Refusal.{Refusal}
 use Rattle.chip.specs.declared.words.Refusal.TheVariants.{NotThere}
 use Rattle.chip.specs.Meaning.{Meaning, nothing}
 use Rattle.chip.specs.Calls.{with_page, with_block_free, erase_told, erased}
-use Rattle.chip.specs.Slot.{laid, fits, page_of, with_slot, blank_block, block_erased}
+use Rattle.chip.specs.Slot.{laid, fits, page_of, block_erased}
 use Rattle.chip.specs.Makes.{means_of, plain_means, Touched, Blanked, Untouched, Wiped}
 use Rattle.chip.proofs.Placing.{means_written, means_erased, told_erase, told_erased}
 

@@ -1,6 +1,6 @@
 -- A part of a list is replaced by another of the same length: what a window of the list then shows.
-use Rattle.std.proofs.Common.{◌≡◌, ℕ, ◌+◌, ◌-◌, ◌<◌, ◌≤◌, min, List, ◌++◌, length, get_or, take, drop, sym, refl, ap, ◌∙◌, arith, rules}
-use Rattle.std.proofs.lemmas.List.{length-take, length-take-le, length-append, length-drop, take-append-le, drop-append-le, drop_at, take_at, drop-drop, take-take, drop-take, take-append-drop, places, same_lists}
+use Rattle.std.proofs.Common.{◌≡◌, ℕ, ◌+◌, ◌<◌, ◌≤◌, List, ◌++◌, length, get_or, take, drop, arith, rules}
+use Rattle.std.proofs.lemmas.List.{length-take, length-append, length-drop, places, same_lists}
 
 module _ {X : Type 0} (xs part : List X) (at w : ℕ) (fits : at + w ≤ length xs) (full : length part ≡ w) where
   abbrev patched : List X

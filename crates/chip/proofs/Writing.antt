@@ -1,8 +1,8 @@
 -- A slot that is written in three parts, one after the other.
-use Rattle.std.proofs.Common.{◌≡◌, ℕ, ◌+◌, ◌-◌, ◌<◌, ◌≤◌, List, [], ◌++◌, length, get_or, take, drop, replicate, sym, refl, ap, ◌∙◌, arith, rules}
+use Rattle.std.proofs.Common.{◌≡◌, ℕ, ◌+◌, ◌-◌, ◌≤◌, List, [], ◌++◌, length, take, drop, replicate, sym, ap, ◌∙◌, arith}
 use borrow.Rule.Slice.PartMut.{put_mid, post_of}
 use Rattle.std.proofs.lemmas.List.{append_assoc, append-nil, length-append, length-drop, length-take, drop_all, drop_at, take_at}
-use Rattle.chip.specs.Slot.{wide, header, slot_of}
+use Rattle.chip.specs.Slot.{wide}
 
 module _ (size : ℕ) (slot h d tail : List ℕ) (whole : length slot ≡ wide size) (front : length h ≡ 16) (fits : length d ≤ size) where
   abbrev first : List ℕ

@@ -8,7 +8,7 @@
 -- Programmed       what a program may answer, and what the chip then means
 -- fetched          what `fetch` answers; `fetched_into` what the caller's buffer then holds
 -- erased           the meaning after an accepted erase
-use Rattle.std.specs.Prelude.{◌≡◌, ℕ, ◌+◌, ◌-◌, ◌*◌, ◌<◌, ◌≤◌, Bool, true, false, cond, List, [], ◌++◌, length, take, drop, replicate, Some, None, Ok, Err, Option, Result, nat_le, nat_lt, slice_set}
+use Rattle.std.specs.Prelude.{◌≡◌, ℕ, ◌+◌, ◌-◌, ◌*◌, ◌≤◌, Bool, true, false, cond, List, [], ◌++◌, length, take, drop, replicate, Some, None, Ok, Err, Option, Result, nat_le, nat_lt, slice_set}
 use Rattle.chip.specs.declared.words.Kind.{Kind}
 use Rattle.chip.specs.declared.words.Kind.TheVariants.{Free, Spoiled, Written}
 use Rattle.chip.specs.declared.words.Refusal.{Refusal}

@@ -5,7 +5,7 @@
 -- nothing    the meaning of a chip that could not be made: no pages, all sizes 0
 -- Shaped     every chip is nothing, or has its sizes in range and exactly its pages
 -- page_at    the page of a number; past the end it reads as spoiled
-use Rattle.std.specs.Prelude.{◌≡◌, ℕ, ◌*◌, ◌<◌, ◌≤◌, ◌⊎◌, List, [], length, slice_index_or}
+use Rattle.std.specs.Prelude.{◌≡◌, ℕ, ◌*◌, ◌≤◌, ◌⊎◌, List, [], length, slice_index_or}
 
 pub data Page : Type 0 where
   free : Page

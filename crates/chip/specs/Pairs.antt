@@ -6,7 +6,7 @@
 -- ProgramsOne     a program reached just one of the two, and left the other as it was
 -- ErasesOne       the same of an erase
 -- joined_shaped    a pair has the shape that every chip has
-use Rattle.std.specs.Prelude.{◌≡◌, ℕ, ◌+◌, ◌-◌, ◌*◌, ◌<◌, ◌≤◌, Bool, true, false, cond, ◌&&◌, ◌⊎◌, List, [], ◌++◌, length, Ok, Err, Result, ◌==◌, nat_le, nat_lt, refl}
+use Rattle.std.specs.Prelude.{◌≡◌, ℕ, ◌+◌, ◌-◌, ◌*◌, ◌≤◌, Bool, true, cond, ◌&&◌, List, ◌++◌, length, Err, Result, ◌==◌, nat_le, nat_lt}
 use Rattle.std.proofs.Common.{inl, inr, sym, ap, subst, ◌∙◌, add-mul, arith}
 use Rattle.std.proofs.lemmas.List.{length-append}
 use Rattle.std.proofs.lemmas.Bool.{cases_Bool, and_parts, eqb-true, leb-true, cond-true, cond-false}

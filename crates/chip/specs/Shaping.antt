@@ -3,12 +3,12 @@
 -- Fit            what it means that sizes fit memory
 -- made_laid      memory that fits means its slots; `made_nothing` other memory means no pages
 -- made_shaped    so a chip in memory is nothing, or in range with all its pages
-use Rattle.std.specs.Prelude.{◌≡◌, ℕ, zero, suc, ◌+◌, ◌-◌, ◌*◌, ◌<◌, ◌≤◌, Bool, true, false, cond, ◌&&◌, ◌⊎◌, List, length, drop, ◌==◌, nat_le, nat_lt, refl}
-use Rattle.std.proofs.Common.{inl, inr, sym, ap, subst, ◌∙◌, arith}
+use Rattle.std.specs.Prelude.{◌≡◌, ℕ, zero, suc, ◌-◌, ◌*◌, ◌<◌, ◌≤◌, true, false, ◌&&◌, List, length, drop, ◌==◌, nat_le, nat_lt, refl}
+use Rattle.std.proofs.Common.{inl, inr, sym, ap, subst, arith}
 use Rattle.std.proofs.lemmas.Bool.{cases_Bool, and_parts, ltb-true, leb-true, eqb-true, cond-true, cond-false}
 use Rattle.chip.specs.declared.flawed.Flawed.{Flawed}
 use Rattle.chip.specs.declared.plain.Plain.{Plain}
-use Rattle.chip.specs.Meaning.{Meaning, nothing, InRange, Shaped}
+use Rattle.chip.specs.Meaning.{nothing, InRange, Shaped}
 use Rattle.chip.specs.Slot.{wide, laid, pages_of, in_range, taken, fits, made}
 use Rattle.chip.specs.Makes.{plain_means, flawed_means}
 

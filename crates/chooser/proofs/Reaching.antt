@@ -1,5 +1,5 @@
 -- Some block has at least the average.
-use Rattle.std.proofs.Common.{◌≡◌, ℕ, ◌+◌, ◌-◌, ◌*◌, ◌/◌, ◌<◌, ◌≤◌, false, List, length, get_or, drop, sum, subst, ⊎_elim, mul_comm, le-div_iff_mul-le, div-mul-le_self, arith, length-drop, ltb-false, ltb-true}
+use Rattle.std.proofs.Common.{◌≡◌, ℕ, ◌-◌, ◌*◌, ◌/◌, ◌<◌, ◌≤◌, false, List, length, get_or, drop, sum, ⊎_elim, mul_comm, le-div_iff_mul-le, div-mul-le_self, arith, length-drop, ltb-false, ltb-true}
 use Rattle.std.specs.List.{prefix_len}
 use Rattle.std.proofs.ByRecursion.{All-from_get_or, sum_by_le}
 use Rattle.std.proofs.lemmas.List.{get_or-drop}

@@ -1,6 +1,5 @@
 -- A search upwards for the first block that is not below the average.
-use Rattle.std.proofs.Common.{◌≡◌, ℕ, ◌+◌, ◌<◌, ◌≤◌, true, false, ltb, List, length, get_or, drop, Some, None, sym, ap, ◌∙◌, subst, ⊎_elim, arith, lt-ltb}
-use Rattle.std.specs.List.{prefix_len}
+use Rattle.std.proofs.Common.{◌≡◌, ℕ, ◌+◌, ◌<◌, ◌≤◌, true, false, ltb, List, length, get_or, Some, None, sym, ap, ◌∙◌, ⊎_elim, arith, lt-ltb}
 use Rattle.std.proofs.lemmas.List.Sums.{prefix_len-drop_yes, prefix_len-drop_no}
 use Rattle.std.proofs.lemmas.Bool.{cases_lt, cond-true}
 use Rattle.chooser.specs.Counts.{below_average, next_from, first_from}

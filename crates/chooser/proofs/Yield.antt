@@ -1,5 +1,5 @@
 -- What the yield law gives, and what gives it.
-use Rattle.std.proofs.Common.{◌≡◌, ℕ, ◌-◌, ◌*◌, ◌<◌, ◌≤◌, true, List, length, get_or, MatchBool, sum, sym, subst, mul_comm, lt_of_mul-lt-mul_right, arith}
+use Rattle.std.proofs.Common.{◌≡◌, ℕ, ◌-◌, ◌<◌, ◌≤◌, true, List, length, get_or, MatchBool, sym, subst, mul_comm, lt_of_mul-lt-mul_right, arith}
 use Rattle.std.proofs.ByRecursion.{All-from_get_or}
 use Rattle.std.proofs.ByRecursion.{sum_by_le}
 use Rattle.chooser.specs.Counts.{Fullest}

@@ -7,7 +7,7 @@
 -- Answers      what a chooser may answer, and what it is after that: the law on a list that it has to answer; 0 on any
 --              other, which leaves it as it was
 -- Worth        with more than (least - 1) dead pages for each block, the block has at least `least`
-use Rattle.std.specs.Prelude.{◌≡◌, ℕ, ◌-◌, ◌*◌, ◌<◌, ◌≤◌, Bool, true, false, cond, ◌&&◌, List, [], ◌∷◌, length, MatchBool, sum, nat_le, slice_index}
+use Rattle.std.specs.Prelude.{◌≡◌, ℕ, ◌-◌, ◌*◌, ◌<◌, ◌≤◌, Bool, true, ◌&&◌, List, [], ◌∷◌, length, MatchBool, sum, nat_le, slice_index}
 
 abbrev pub all_at_most : ℕ → List ℕ → Bool
 all_at_most most [] = true

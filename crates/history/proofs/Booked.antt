@@ -8,37 +8,7 @@ use Rattle.ledger.specs.declared.seat.Status.TheVariants.{Empty, Serving, OnNoti
 use Rattle.ledger.specs.declared.seat.Seat.{Seat}
 use Rattle.ledger.specs.Seats.{empty_status, took, gave_back, saved, served, renewed, at_end, turned}
 use Rattle.ledger.specs.Books.{collector_share}
-use Rattle.history.specs.History.{
-  hands_back,
-  Call,
-  opening,
-  admit,
-  notice,
-  take,
-  hand_back,
-  save,
-  read,
-  tick,
-  Deed,
-  admitted,
-  noticed,
-  granted,
-  handed_back,
-  stored,
-  Entry,
-  opened,
-  did,
-  told,
-  ticked,
-  refused,
-  programmed,
-  asked,
-  erased,
-  History,
-  tick_of,
-  seat_plan,
-  elapsed,
-}
+use Rattle.history.specs.History.{hands_back, Call, opening, admit, notice, take, hand_back, save, read, tick, Deed, admitted, noticed, granted, handed_back, stored, Entry, opened, did, told, ticked, refused, programmed, asked, erased, History, tick_of, seat_plan}
 use Rattle.history.specs.Promise.{Given}
 use Rattle.history.specs.Moves.{InUse, DeedStep, SaveRefused, RefusalStep, Step, Run, fresh, then_entry}
 use Rattle.history.proofs.Periods.{plan_stays}

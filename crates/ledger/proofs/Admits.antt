@@ -1,17 +1,14 @@
 -- Admission keeps the books fair. Assumes nothing.
-use Rattle.std.proofs.Common.{◌≡◌, ℕ, ◌+◌, ◌-◌, ◌*◌, ◌/◌, ◌<◌, ◌≤◌, Bool, true, false, cond, ◌&&◌, ltb, leb, List, length, get_or, set, Some, None, Option, sym, refl, ap, ◌∙◌, subst, inl, inr, mul-le-mul_right, add-mul, mul-le-mul_left, mul-one, arith}
+use Rattle.std.proofs.Common.{◌≡◌, ℕ, ◌+◌, ◌-◌, ◌*◌, ◌<◌, ◌≤◌, Bool, true, false, cond, ◌&&◌, ltb, leb, get_or, set, Some, None, Option, refl, ap, ◌∙◌, subst, inl, inr, mul-le-mul_right, add-mul, mul-le-mul_left, mul-one, arith}
 use native.Mathlib.Nat.{mul-div-le}
 use Rattle.plan.specs.declared.numbers.Plan.{Plan}
 use Rattle.plan.proofs.Law.{many_law, one_law}
 use Rattle.plan.specs.Plan.{PlanLaw, in_range, plan_of, planned, many_runs, one_run}
 use Rattle.std.proofs.lemmas.Bool.{and_parts, leb-true, cond_both, cond-false, cases_lt, le-leb, ltb-true, ltb-false}
-use Rattle.ledger.specs.declared.frame.Frame.{Frame}
 use Rattle.ledger.specs.declared.ledger.Ledger.{Ledger}
 use Rattle.ledger.specs.declared.refusal.Refusal.TheVariants.{PoolTooSmall, YieldRuleWouldFail}
-use Rattle.ledger.specs.declared.seat.Seat.{Seat}
 use Rattle.ledger.specs.Seats.{nobody, in_use, seated}
 use Rattle.ledger.specs.Books.{Books, collector_share, highest, extra, ask, rule_with, asks_plan}
-use Rattle.ledger.specs.Shares.{had, adds}
 use Rattle.ledger.specs.Fair.{Affordable, Fair}
 use Rattle.ledger.specs.Of.{books_of}
 use Rattle.ledger.proofs.Facts.{fair_of}

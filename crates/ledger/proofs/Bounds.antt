@@ -1,10 +1,10 @@
 -- How large the numbers of fair books can be. Assumes nothing.
-use Rattle.std.proofs.Common.{◌≡◌, ℕ, ◌+◌, ◌-◌, ◌*◌, ◌<◌, ◌≤◌, Bool, true, false, cond, ◌⊎◌, List, length, get_or, sym, refl, ap, subst, inl, inr, mul-le-mul, arith}
-use Rattle.std.proofs.lemmas.Bool.{cond-true, cases_Bool}
+use Rattle.std.proofs.Common.{◌≡◌, ℕ, ◌-◌, ◌*◌, ◌<◌, ◌≤◌, true, false, ◌⊎◌, List, get_or, ap, inl, inr, mul-le-mul, arith}
+use Rattle.std.proofs.lemmas.Bool.{cases_Bool}
 use Rattle.ledger.specs.declared.frame.Frame.{Frame}
 use Rattle.ledger.specs.declared.seat.Seat.{Seat}
 use Rattle.ledger.specs.Seats.{nobody, in_use}
-use Rattle.ledger.specs.Shares.{holds, had, adds}
+use Rattle.ledger.specs.Shares.{holds}
 use Rattle.ledger.specs.Fair.{Fair, JobFair, SeatFair}
 use Rattle.ledger.proofs.Jobs.{account_within, due_within}
 

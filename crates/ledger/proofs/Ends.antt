@@ -1,5 +1,5 @@
 -- The end of a seat's tick: what it gives the pool, and that a seat not in use stays. Assumes nothing.
-use Rattle.std.proofs.Common.{◌≡◌, ℕ, ◌+◌, ◌-◌, ◌*◌, ◌<◌, ◌≤◌, Bool, true, false, cond, not, ◌&&◌, eqb, ltb, List, length, get_or, set, sym, refl, ap, ◌∙◌, subst, inl, inr, mul-le-mul, arith}
+use Rattle.std.proofs.Common.{◌≡◌, ℕ, ◌+◌, ◌*◌, ◌<◌, ◌≤◌, Bool, true, false, cond, not, ◌&&◌, eqb, ltb, List, get_or, set, sym, refl, ap, ◌∙◌, inl, inr, mul-le-mul, arith}
 use lib.Seq.{set-get_or}
 use Rattle.std.proofs.lemmas.List.{get_or_past}
 use Rattle.std.proofs.lemmas.Bool.{cond-true, cases_lt, ltb-true, lt-ltb, and_from, both_ways}
@@ -9,7 +9,7 @@ use Rattle.ledger.specs.declared.seat.Seat.{Seat}
 use Rattle.ledger.specs.declared.seat.Status.{Status}
 use Rattle.ledger.specs.declared.seat.Status.TheVariants.{Empty, Serving, OnNotice}
 use Rattle.ledger.specs.Seats.{nobody, in_use, empty_status, serving_status, at_end, turned}
-use Rattle.ledger.specs.Books.{Books, seat_of, collector_share, lent, extra, used_seat, leaves, ended}
+use Rattle.ledger.specs.Books.{seat_of, collector_share, extra, used_seat, leaves, ended}
 use Rattle.ledger.specs.Fair.{Fair, Found}
 use Rattle.ledger.specs.Of.{books_of}
 use Rattle.ledger.proofs.Facts.{fair_of}

@@ -1,12 +1,12 @@
 -- What each deed and each part of a tick keep of a fair seat. Assumes nothing.
-use Rattle.std.proofs.Common.{◌≡◌, ℕ, ◌+◌, ◌-◌, ◌*◌, ◌/◌, ◌<◌, ◌≤◌, Bool, true, false, cond, not, eqb, sym, refl, ap, ◌∙◌, subst, inl, inr, mul-le-mul_left, mul-zero, zero-mul, mul-one, mul-add, arith}
+use Rattle.std.proofs.Common.{◌≡◌, ◌+◌, ◌*◌, ◌<◌, ◌≤◌, Bool, true, false, cond, not, eqb, refl, ap, ◌∙◌, inl, inr, mul-zero, zero-mul, mul-one, mul-add, arith}
 use Rattle.std.proofs.lemmas.Bool.{both_ways, cases_lt}
 use Rattle.plan.specs.declared.numbers.Plan.{Plan}
 use Rattle.ledger.specs.declared.frame.Frame.{Frame}
 use Rattle.ledger.specs.declared.seat.Seat.{Seat}
 use Rattle.ledger.specs.declared.seat.Status.{Status}
 use Rattle.ledger.specs.declared.seat.Status.TheVariants.{Empty, Serving, OnNotice}
-use Rattle.ledger.specs.Seats.{nobody, is_empty, is_serving, in_use, empty_status, seated, warned, took, gave_back, saved, one_later, due, ran, renewed, at_end, turned}
+use Rattle.ledger.specs.Seats.{nobody, is_serving, in_use, empty_status, seated, warned, took, gave_back, saved, one_later, due, ran, renewed, at_end, turned}
 use Rattle.ledger.specs.Books.{collector_share}
 use Rattle.ledger.specs.Fair.{JobFair, SeatFair}
 use Rattle.ledger.proofs.Clockwork.{runs_grow, runs_within}

@@ -1,5 +1,5 @@
 -- The books are fair when they are opened. Assumes nothing.
-use Rattle.std.proofs.Common.{◌≡◌, ℕ, ◌+◌, ◌<◌, ◌≤◌, true, ◌&&◌, leb, List, get_or, replicate, sym, refl, ap, ◌∙◌, subst, arith}
+use Rattle.std.proofs.Common.{◌≡◌, ◌+◌, true, ◌&&◌, leb, replicate, sym, refl, subst, arith}
 use lib.ListN.{get_or-replicate}
 use Rattle.plan.specs.Yield.{yield_rule}
 use Rattle.std.proofs.lemmas.Bool.{and_parts, leb-true}

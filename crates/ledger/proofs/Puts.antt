@@ -8,7 +8,7 @@ use Rattle.ledger.specs.declared.frame.Frame.{Frame}
 use Rattle.ledger.specs.declared.ledger.Ledger.{Ledger}
 use Rattle.ledger.specs.declared.seat.Seat.{Seat}
 use Rattle.ledger.specs.Seats.{nobody, is_serving, in_use, warned, took, gave_back, saved, one_later, due, ran}
-use Rattle.ledger.specs.Books.{collector_share, lent, extra}
+use Rattle.ledger.specs.Books.{collector_share, extra}
 use Rattle.ledger.specs.Fair.{Fair, Found, JobFair, SeatFair}
 use Rattle.ledger.specs.Of.{books_of}
 use Rattle.ledger.proofs.Facts.{fair_of}

@@ -1,21 +1,20 @@
 -- Between the calls every seat's runs are those that are due. Assumes nothing.
-use Rattle.std.proofs.Common.{◌≡◌, ℕ, ◌+◌, ◌-◌, ◌*◌, ◌/◌, ◌<◌, ◌≤◌, Bool, true, false, cond, not, ◌&&◌, eqb, ltb, ◌≢◌, List, length, get_or, set, replicate, None, sym, refl, ap, ◌∙◌, subst, inl, inr, zero-mul, arith, get_or-set_other, get_or-set_same}
+use Rattle.std.proofs.Common.{◌≡◌, ℕ, ◌+◌, ◌-◌, ◌/◌, ◌<◌, ◌≤◌, Bool, true, false, cond, not, ◌&&◌, eqb, ltb, ◌≢◌, length, get_or, set, sym, refl, ap, ◌∙◌, subst, inl, inr, zero-mul, arith, get_or-set_other, get_or-set_same}
 use native.Mathlib.Decide.{ℕ_discrete}
 use native.Mathlib.Nat.{zero-div}
 use lib.ListN.{get_or-replicate}
 use Rattle.plan.specs.declared.numbers.Plan.{Plan}
-use Rattle.std.proofs.lemmas.Bool.{both_ways, cases_lt, cases_Bool, eqb-true, eqb-false, lt-ltb, and_from, cond-true, cond-false, ltb-true}
+use Rattle.std.proofs.lemmas.Bool.{both_ways, cases_lt, cases_Bool, eqb-false, lt-ltb, and_from, cond-true, cond-false}
 use Rattle.ledger.specs.declared.frame.Frame.{Frame}
 use Rattle.ledger.specs.declared.seat.Seat.{Seat}
 use Rattle.ledger.specs.declared.seat.Status.{Status}
 use Rattle.ledger.specs.declared.seat.Status.TheVariants.{Empty, Serving, OnNotice}
-use Rattle.ledger.specs.Seats.{nobody, in_use, empty_status, seated, one_later, due, ran, renewed, at_end, turned}
-use Rattle.ledger.specs.Books.{Books, seat_of, used_seat, with_seat, collector_share, admitted, noticed, taken, returned, spent, paid, entered, ran_once, ended}
+use Rattle.ledger.specs.Seats.{nobody, in_use, empty_status, one_later, due, ran, at_end, turned}
+use Rattle.ledger.specs.Books.{Books, seat_of, used_seat, admitted, noticed, taken, returned, spent, entered, ran_once, ended}
 use Rattle.ledger.specs.Fair.{FairBooks, JobFair, SeatFair, opened}
 use Rattle.ledger.specs.Settled.{SeatSettled, Settled, SettledBut, Below}
 use Rattle.ledger.specs.Steps.{stepped, owes, made_one}
 use Rattle.ledger.proofs.Answered.{used_parts}
-use Rattle.ledger.proofs.Bounds.{seat_ways}
 use Rattle.ledger.proofs.Clockwork.{runs_left}
 use Rattle.ledger.proofs.Jobs.{some_run, due_within}
 

@@ -1,5 +1,5 @@
 -- What each move makes of the number of tokens. Assumes nothing.
-use Rattle.std.proofs.Common.{◌≡◌, ℕ, zero, suc, ◌+◌, ◌-◌, ◌*◌, ◌/◌, ◌<◌, ◌≤◌, Bool, true, false, cond, not, ◌&&◌, eqb, ltb, List, [], ◌∷◌, length, get_or, set, None, sym, refl, ap, ◌∙◌, subst, inl, inr, le_of_suc-le-suc, not-suc-le-zero, mul-le-mul_right, mul_comm, mul-le-mul_left, arith}
+use Rattle.std.proofs.Common.{◌≡◌, ℕ, suc, ◌+◌, ◌-◌, ◌*◌, ◌/◌, ◌<◌, ◌≤◌, Bool, true, false, cond, not, ◌&&◌, eqb, ltb, List, [], ◌∷◌, length, get_or, None, refl, ap, ◌∙◌, inl, inr, mul-le-mul_right, mul_comm, arith}
 use Rattle.plan.specs.declared.numbers.Plan.{Plan}
 use Rattle.std.proofs.lemmas.List.{get_or_past, set_past}
 use Rattle.std.proofs.lemmas.Bool.{cases_lt, cond-true, eqb-true, and_from, lt-ltb}
@@ -30,13 +30,13 @@ use Rattle.ledger.specs.Books.{
   ran_once,
   ended,
 }
-use Rattle.ledger.specs.Fair.{Fair, FairBooks, JobFair, SeatFair}
+use Rattle.ledger.specs.Fair.{FairBooks, JobFair, SeatFair}
 use Rattle.ledger.specs.Settled.{Below}
 use Rattle.ledger.specs.Shares.{holds, had, adds}
 use Rattle.ledger.proofs.Answered.{return_granted, used_parts}
 use Rattle.ledger.proofs.Bounds.{seat_ways}
 use Rattle.ledger.proofs.Clockwork.{runs_full}
-use Rattle.ledger.proofs.Ends.{back, unused_nobody}
+use Rattle.ledger.proofs.Ends.{back}
 use Rattle.ledger.proofs.Jobs.{out_paid, account_within}
 use Rattle.ledger.proofs.Sums.{held_set, held_has}
 

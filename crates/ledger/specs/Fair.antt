@@ -10,12 +10,12 @@
 -- stands      the frames that a ledger can be opened with
 -- opened      the books of a ledger that was just opened
 -- idle        a frame with no tokens, for a store that is shut
-use Rattle.std.specs.Prelude.{◌≡◌, ℕ, ◌+◌, ◌-◌, ◌*◌, ◌<◌, ◌≤◌, Bool, true, false, ◌&&◌, List, length, replicate, nat_le, slice_index_or}
+use Rattle.std.specs.Prelude.{◌≡◌, ℕ, ◌+◌, ◌*◌, ◌<◌, ◌≤◌, Bool, true, false, ◌&&◌, List, length, replicate, nat_le, slice_index_or}
 use Rattle.plan.specs.declared.numbers.Plan.{Plan}
 use Rattle.plan.specs.Yield.{yield_rule}
 use Rattle.ledger.specs.declared.frame.Frame.{Frame}
 use Rattle.ledger.specs.declared.seat.Seat.{Seat}
-use Rattle.ledger.specs.Seats.{nobody, is_empty, is_serving, in_use, due}
+use Rattle.ledger.specs.Seats.{nobody, is_serving, in_use, due}
 use Rattle.ledger.specs.Books.{Books, seat_of, collector_share, lent, extra, rule_with}
 
 pub record JobFair (f : Frame) (s : Seat) : Type 0 where

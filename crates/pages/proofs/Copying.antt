@@ -1,18 +1,18 @@
 -- A copy of a page, over plain values.
-use Rattle.std.proofs.Common.{◌≡◌, ℕ, ◌+◌, ◌-◌, ◌<◌, ◌≤◌, Bool, true, false, cond, ◌&&◌, ltb, leb, ◌⊎◌, List, [], ◌∷◌, ◌++◌, length, get_or, take, drop, Some, None, Ok, Err, Option, Result, sym, refl, ap, ◌∙◌, subst, inl, inr, arith}
+use Rattle.std.proofs.Common.{◌≡◌, ℕ, ◌-◌, ◌<◌, ◌≤◌, true, false, ◌&&◌, ltb, leb, List, length, take, drop, Some, None, Ok, Err, Option, Result, sym, refl, ap, ◌∙◌, subst, inl, inr, arith}
 use Rattle.std.proofs.lemmas.List.{get_or_default, get_or_past, take_at}
-use Rattle.std.proofs.lemmas.Bool.{cases_Bool, cases_lt, cond-true, cond-false, both_ways}
+use Rattle.std.proofs.lemmas.Bool.{cases_Bool, cases_lt, cond-true, cond-false}
 use Rattle.std.proofs.lemmas.Bool.Decides.{nat_tests}
 use Rattle.chip.specs.declared.words.Refusal.{Refusal}
 use Rattle.chip.specs.declared.words.Refusal.TheVariants.{NotThere, TooLong}
 use Rattle.chip.specs.Meaning.{Page, free, spoiled, written, Meaning, page_at}
 use Rattle.chip.specs.Calls.{fetched_page, fetched, in_front, data_of, fetched_into}
-use Rattle.history.specs.Pages.{names, is_live, frees}
+use Rattle.history.specs.Pages.{names, is_live}
 use Rattle.history.proofs.Counts.{live_named}
 use Rattle.pages.specs.declared.tables.Tables.{Tables}
 use Rattle.pages.specs.Tied.{maps_of, page_in, Tied}
-use Rattle.pages.specs.Write.{CanWrite, Wrote, Writes}
-use Rattle.pages.specs.Copy.{live_in, CanCopy, Moved, Copied, Copies}
+use Rattle.pages.specs.Write.{CanWrite, Writes}
+use Rattle.pages.specs.Copy.{live_in, CanCopy, Copies}
 
 -- a label past the map names nothing
 pub unnamed : (t : Tables) (l q : ℕ) → length t.map ≡ 1920 → false ≡ (ltb l 1920 && names (maps_of t l) q) → names (maps_of t l) q ≡ false

@@ -1,22 +1,19 @@
 -- The steps of the loop that empties a block, over plain values.
-use Rattle.std.proofs.Common.{◌≡◌, ℕ, suc, ◌+◌, ◌-◌, ◌*◌, ◌/◌, ◌^◌, ◌<◌, ◌≤◌, Bool, true, false, cond, ltb, ◌⊎◌, List, [], ◌∷◌, length, get_or, Some, None, Option, sym, refl, ap, ◌∙◌, subst, inl, inr, add-one, arith}
-use Rattle.std.proofs.lemmas.Bool.{cond-true, cond-false}
+use Rattle.std.proofs.Common.{◌≡◌, ℕ, ◌+◌, ◌*◌, ◌^◌, ◌<◌, ◌≤◌, false, cond, ltb, [], length, Some, sym, refl, ap, ◌∙◌, subst, inl, inr, add-one, arith}
 use Rattle.std.proofs.lemmas.Bool.Decides.{nat_tests}
-use Rattle.chip.specs.Meaning.{Page, free, written, Meaning}
-use Rattle.history.specs.Pages.{is_live, frees, lives}
-use Rattle.history.specs.History.{History, count}
-use Rattle.history.specs.Promise.{is_try}
-use Rattle.history.specs.Work.{Written, Emptying, begun, passed, copied, in_block}
+use Rattle.chip.specs.Meaning.{Meaning}
+use Rattle.history.specs.Pages.{frees}
+use Rattle.history.specs.History.{History}
+use Rattle.history.specs.Work.{Written, begun, passed, copied, in_block}
 use Rattle.history.proofs.Tries.{written_adds}
 use Rattle.history.proofs.Recycle.{copying_due, copying_frees, copying_fewer}
 use Rattle.history.proofs.Laws.{write_costs, emptying_copying}
 use Rattle.pages.specs.declared.emptied.Emptied.{Emptied}
 use Rattle.pages.specs.declared.tables.Tables.{Tables}
-use Rattle.pages.specs.Search.{over}
 use Rattle.pages.specs.Tied.{maps_of, page_in, Tied}
-use Rattle.pages.specs.Write.{held, SameSize, Wrote}
+use Rattle.pages.specs.Write.{held, Wrote}
 use Rattle.pages.specs.Copy.{live_in, CanCopy, Moved, Copied}
-use Rattle.pages.specs.Recycle.{per_block, free_in, live_count, all_free, CanEmpty, EmptiedTo, added}
+use Rattle.pages.specs.Recycle.{per_block, CanEmpty, EmptiedTo, added}
 
 pub emptied_none : (m : Meaning) (t : Tables) (b : ℕ) → Tied m.page_size m.pages t → EmptiedTo m t b 0 0 0 m t
 emptied_none m t b tied =

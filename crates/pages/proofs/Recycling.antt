@@ -1,14 +1,14 @@
 -- A whole recycle, over plain values.
-use Rattle.std.proofs.Common.{◌≡◌, ℕ, ◌+◌, ◌-◌, ◌*◌, ◌/◌, ◌<◌, ◌≤◌, Bool, true, false, cond, ◌≢◌, ◌⊎◌, List, [], ◌∷◌, length, get_or, take, Some, None, sum, Option, sym, refl, ap, ◌∙◌, subst, inl, inr, arith, length-take}
+use Rattle.std.proofs.Common.{◌≡◌, ℕ, ◌+◌, ◌-◌, ◌*◌, ◌<◌, ◌≤◌, true, List, [], ◌∷◌, length, get_or, take, Some, sum, Option, sym, ap, ◌∙◌, subst, inl, inr, arith, length-take}
 use Rattle.std.proofs.lemmas.List.{get_or-take}
 use Rattle.std.proofs.lemmas.Bool.{both_ways}
-use Rattle.chip.specs.Meaning.{Page, free, written, Meaning, Shaped}
+use Rattle.chip.specs.Meaning.{Meaning, Shaped}
 use Rattle.chip.specs.Calls.{is_free, wiped, with_block_free}
-use Rattle.chooser.specs.Law.{askable, Yields, Answers, Worth}
+use Rattle.chooser.specs.Law.{askable, Answers}
 use Rattle.chooser.proofs.Askable.{askable_from}
 use Rattle.chooser.proofs.Yield.{answer_yields, answer_worth}
-use Rattle.history.specs.Pages.{is_live, is_dead, frees, lives, deads}
-use Rattle.history.specs.History.{History, asked}
+use Rattle.history.specs.Pages.{is_live, is_dead, frees, deads}
+use Rattle.history.specs.History.{asked}
 use Rattle.history.specs.Work.{Emptied as EmptiedBlock, after_wipe}
 use Rattle.history.proofs.Tally.{tally_le, tally_same}
 use Rattle.history.proofs.Counts.{kinds_sum, deads_sum, live_by_map}
@@ -17,9 +17,8 @@ use Rattle.history.proofs.Recycle.{Copying}
 use Rattle.history.proofs.Laws.{emptying_copying}
 use Rattle.pages.specs.declared.emptied.Emptied.{Emptied}
 use Rattle.pages.specs.declared.tables.Tables.{Tables}
-use Rattle.pages.specs.Tied.{maps_of, page_in, Tied}
-use Rattle.pages.specs.Write.{SameSize}
-use Rattle.pages.specs.Recycle.{per_block, free_in, live_count, dead_count, all_free, CanEmpty, EmptiedTo, Empties, SameBlocks, wiped_tables, CanWipe, Wiped, Wipes, CanRecycle, Recycled, Recycles}
+use Rattle.pages.specs.Tied.{maps_of, page_in}
+use Rattle.pages.specs.Recycle.{per_block, free_in, dead_count, all_free, CanEmpty, EmptiedTo, Empties, SameBlocks, CanWipe, Wiped, CanRecycle, Recycled}
 
 pub few_bytes : (m : Meaning) → Shaped m → m.page_size ≤ 512
 few_bytes m (inl empty) = let e = ap (λ x. x.page_size) empty in omega (arith, e)

@@ -1,20 +1,20 @@
 -- The erase of a block without live pages, over plain values.
-use Rattle.std.proofs.Common.{◌≡◌, ℕ, ◌+◌, ◌-◌, ◌*◌, ◌/◌, ◌^◌, ◌<◌, ◌≤◌, min, Bool, true, false, cond, eqb, ltb, ◌≢◌, ◌⊎◌, List, length, get_or, set, Some, None, Option, sym, refl, ap, ◌∙◌, subst, inl, inr, mul-le-mul, arith, length-set, get_or-set_other, get_or-set_same}
+use Rattle.std.proofs.Common.{◌≡◌, ℕ, ◌+◌, ◌-◌, ◌*◌, ◌/◌, ◌^◌, ◌<◌, ◌≤◌, min, ltb, List, length, get_or, set, sym, refl, ap, ◌∙◌, subst, inl, inr, mul-le-mul, arith, length-set, get_or-set_other, get_or-set_same}
 use native.Mathlib.Decide.{ℕ_discrete}
 use native.Mathlib.Nat.{min-eq_left}
-use Rattle.std.proofs.lemmas.Bool.{cases_Bool, cases_lt, cond-true, both_ways}
+use Rattle.std.proofs.lemmas.Bool.{cases_Bool, cond-true}
 use Rattle.std.proofs.lemmas.Bool.Decides.{nat_tests}
-use Rattle.chip.specs.Meaning.{Page, free, written, Meaning}
+use Rattle.chip.specs.Meaning.{Page, Meaning}
 use Rattle.chip.specs.Calls.{is_free, wiped, with_block_free, erased}
 use Rattle.history.specs.Pages.{is_live, is_dead, frees, lives, deads}
 use Rattle.history.specs.Work.{in_block, after_wipe, Emptied}
 use Rattle.history.proofs.Tally.{tally_none, tally_same, tally_le}
 use Rattle.history.proofs.Counts.{kinds_sum, live_named}
-use Rattle.history.proofs.Chip.{block_from, block_range, block_outside, block_fits, length_wiped, wiped_inside, wiped_outside, frees_wiped}
+use Rattle.history.proofs.Chip.{block_from, block_outside, block_fits, length_wiped, wiped_inside, wiped_outside, frees_wiped}
 use Rattle.pages.specs.declared.tables.Tables.{Tables}
 use Rattle.pages.specs.Search.{total}
 use Rattle.pages.specs.Tied.{maps_of, page_in, Tied}
-use Rattle.pages.specs.Recycle.{per_block, SameBlocks, wiped_tables, CanWipe, Wiped}
+use Rattle.pages.specs.Recycle.{per_block, wiped_tables, CanWipe, Wiped}
 
 module _ {most : ℕ} {pages : List Page} {t : Tables} (k : Tied most pages t) (b : ℕ) (there : b < t.geometry.blocks) (none_live : Emptied (per_block t) b (maps_of t)) where
   some_pages : 0 < per_block t

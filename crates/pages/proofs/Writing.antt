@@ -1,20 +1,20 @@
 -- The steps of the loop of tries, over plain values.
-use Rattle.std.proofs.Common.{◌≡◌, ℕ, suc, ◌+◌, ◌-◌, ◌*◌, ◌/◌, ◌<◌, ◌≤◌, Bool, true, false, cond, ltb, leb, ◌≢◌, ◌⊎◌, List, [], ◌∷◌, length, get_or, set, Some, None, Ok, Err, Option, sym, refl, ap, ◌∙◌, subst, inl, inr, add-one, arith, length-set, get_or-set_other, get_or-set_same}
+use Rattle.std.proofs.Common.{◌≡◌, ℕ, suc, ◌+◌, ◌-◌, ◌*◌, ◌/◌, ◌<◌, ◌≤◌, true, false, ◌⊎◌, List, ◌∷◌, length, get_or, set, Some, None, Ok, Option, sym, refl, ap, ◌∙◌, subst, inl, inr, add-one, arith, length-set, get_or-set_other, get_or-set_same}
 use Rattle.std.proofs.lemmas.List.{get_or_default}
 use Rattle.std.proofs.lemmas.Bool.{both_ways, eqb-false, ne_eqb}
 use Rattle.std.proofs.lemmas.Bool.Decides.{nat_tests}
 use Rattle.chip.specs.declared.words.Refusal.{Refusal}
-use Rattle.chip.specs.Meaning.{Page, free, spoiled, written, Meaning, Shaped, page_at}
+use Rattle.chip.specs.Meaning.{Page, free, spoiled, Meaning, Shaped, page_at}
 use Rattle.chip.specs.Calls.{is_free, asks_program, programmed, Programmed}
 use Rattle.history.specs.Pages.{frees}
 use Rattle.history.specs.History.{History, programmed as entry}
-use Rattle.history.specs.Work.{Place, next_page, in_block, Tried, none, again, Written}
+use Rattle.history.specs.Work.{Place, next_page, in_block, Tried, none, again}
 use Rattle.history.proofs.Tally.{tally_none}
 use Rattle.history.proofs.Counts.{frees_set, frees_set_elsewhere, free_outside}
 use Rattle.history.proofs.Chip.{block_fits, block_outside, block_range}
 use Rattle.pages.specs.declared.tables.Tables.{Tables}
 use Rattle.pages.specs.Search.{total, over, Found}
-use Rattle.pages.specs.Tied.{maps_of, page_in, spoilt, settled, Tied}
+use Rattle.pages.specs.Tied.{page_in, spoilt, settled, Tied}
 use Rattle.pages.specs.Write.{held, Skips, CanWrite, SameSize, Wrote}
 use Rattle.pages.proofs.Truth.{tied_spoilt, tied_settled}
 

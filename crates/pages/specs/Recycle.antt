@@ -8,8 +8,8 @@
 -- wiped_tables  the tables after a block without live pages was erased; Wipes what the erase answers
 -- CanRecycle   there is a block with α dead pages, and room for the copies of any such block
 -- Recycled      a block with at least α dead pages was emptied and erased; Recycles what the recycle answers
-use Rattle.std.specs.Prelude.{◌≡◌, ℕ, ◌+◌, ◌-◌, ◌*◌, ◌<◌, ◌≤◌, cond, List, ◌∷◌, length, Some, None, Option, nat_lt, slice_index, slice_set}
-use Rattle.chip.specs.Meaning.{Page, Meaning}
+use Rattle.std.specs.Prelude.{◌≡◌, ℕ, ◌+◌, ◌-◌, ◌*◌, ◌<◌, ◌≤◌, cond, ◌∷◌, length, Some, None, Option, nat_lt, slice_index, slice_set}
+use Rattle.chip.specs.Meaning.{Meaning}
 use Rattle.chip.specs.Calls.{wiped, with_block_free}
 use Rattle.history.specs.Pages.{frees, lives, deads}
 use Rattle.history.specs.History.{History, asked, count}

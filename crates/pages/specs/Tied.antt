@@ -10,7 +10,6 @@ use Rattle.std.specs.Prelude.{◌≡◌, ℕ, ◌+◌, ◌-◌, ◌*◌, ◌/◌
 use Rattle.chip.specs.Meaning.{Page, free, written}
 use Rattle.history.specs.Pages.{frees, deads}
 use Rattle.history.specs.Work.{next_page}
-use Rattle.pages.specs.declared.geometry.Geometry.{Geometry}
 use Rattle.pages.specs.declared.tables.Tables.{Tables}
 use Rattle.pages.specs.Search.{total, Sized}
 

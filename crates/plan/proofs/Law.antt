@@ -1,5 +1,5 @@
 -- The plan of the rules keeps the law of a plan. Assumes nothing.
-use Rattle.std.proofs.Common.{◌≡◌, ℕ, zero, suc, ◌+◌, ◌-◌, ◌*◌, ◌/◌, ◌%◌, ◌^◌, ◌<◌, ◌≤◌, min, Bool, true, false, cond, ◌&&◌, ltb, leb, sym, refl, ap, ◌∙◌, subst, mod-lt, mul_assoc, mul_comm, add-mul, mul-le-mul, mul-pos, div-add-mod', le-div_iff_mul-le, div-le_self, arith}
+use Rattle.std.proofs.Common.{◌≡◌, ℕ, zero, suc, ◌+◌, ◌-◌, ◌*◌, ◌/◌, ◌%◌, ◌^◌, ◌<◌, ◌≤◌, min, Bool, true, false, cond, ◌&&◌, ltb, leb, sym, refl, ap, ◌∙◌, mod-lt, mul_assoc, mul_comm, add-mul, mul-le-mul, mul-pos, div-add-mod', le-div_iff_mul-le, div-le_self, arith}
 use native.Mathlib.Nat.{mul-div-le, lt-div-mul-add, div-eq_of_lt-le}
 use Rattle.std.proofs.lemmas.Bool.{and_parts, leb-true, ltb-true, ltb-false}
 use Rattle.plan.specs.declared.numbers.Plan.{Plan}

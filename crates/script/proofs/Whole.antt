@@ -1,7 +1,7 @@
 -- Nothing is lost where a list is cut at a mark. Assumes nothing.
-use Rattle.std.proofs.Common.{◌≡◌, ℕ, ◌<◌, Bool, true, false, cond, eqb, ◌⊎◌, List, [], ◌∷◌, ◌++◌, length, refl, ap, inl, inr, arith}
+use Rattle.std.proofs.Common.{◌≡◌, ℕ, ◌<◌, Bool, true, false, cond, eqb, ◌⊎◌, List, [], ◌∷◌, length, refl, ap, inl, inr, arith}
 use Rattle.std.proofs.lemmas.Bool.{eqb-true}
-use Rattle.script.specs.Law.{AllClear, Clear, CutLaw, ended, EndsSome, LinesLaw, parted, WordsLaw}
+use Rattle.script.specs.Law.{AllClear, CutLaw, ended, EndsSome, parted}
 use Rattle.script.specs.Text.{blank, cut_at, line_feed, onto_first}
 
 -- no part has the mark in it

@@ -61,6 +61,6 @@ fn a_number_is_written_in_decimal(rt: HostRuntime) -> Result<(), Fail> {
     push_number(&mut out, 10)?;
     push_number(&mut out, 987)?;
     push_number(&mut out, u32::MAX)?;
-    assert!(rt; out.as_slice() == b"0109874294967295");
+    assert!(rt; out.as_slice() == b"0109874294967295".as_slice());
     Ok(())
 }

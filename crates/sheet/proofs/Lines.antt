@@ -1,5 +1,5 @@
 -- Lines that are written piece by piece, one after another. Assumes nothing.
-use Rattle.std.proofs.Common.{◌≡◌, ℕ, List, [], ◌∷◌, ◌++◌, Some, None, decimal, Option, sym, ap, ◌∙◌, append_assoc}
+use Rattle.std.proofs.Common.{◌≡◌, ℕ, List, [], ◌∷◌, ◌++◌, Some, Option, sym, ap, ◌∙◌, append_assoc}
 use Rattle.plan.specs.declared.numbers.Plan.{Plan}
 use Rattle.script.specs.Text.{blank, line_feed}
 use Rattle.sheet.specs.Sheet.{plan_for, plan_line, plan_lines}

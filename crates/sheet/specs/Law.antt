@@ -4,7 +4,7 @@
 -- Asks         a line asks for a plan: its three words are the numbers α, p and w, each in its range
 -- Answered     a line that asks is answered by the three numbers of a plan of what it asks for, and any other by `?`
 -- Answers      each line has its answer, in order, and there is no further answer
-use Rattle.std.specs.Prelude.{◌≡◌, ℕ, ◌<◌, true, List, [], ◌∷◌, length, Some, Option}
+use Rattle.std.specs.Prelude.{◌≡◌, ℕ, ◌<◌, true, List, [], ◌∷◌, length, Some}
 use Rattle.plan.specs.Plan.{in_range, PlanLaw}
 use Rattle.plan.specs.declared.numbers.Plan.{Plan}
 use Rattle.script.specs.Numbers.{all_digits, number_of, read_on}

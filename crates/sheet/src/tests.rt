@@ -33,8 +33,8 @@ fn a_sheet_has_at_most_32768_bytes(rt: HostRuntime) -> Result<(), Fail> {
     input.extend_from_slice(b"1 1 1")?;
     assert!(rt; input.len() == 32_769);
     let refused = plan_sheet(rt.alloc(), input.as_slice())?;
-    assert!(rt; refused.as_slice() == b"!\n");
+    assert!(rt; refused.as_slice() == b"!\n".as_slice());
     let answered = plan_sheet(rt.alloc(), &input[1..])?;
-    assert!(rt; answered.as_slice() == b"1 1 1\n");
+    assert!(rt; answered.as_slice() == b"1 1 1\n".as_slice());
     Ok(())
 }

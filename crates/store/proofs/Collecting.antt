@@ -1,23 +1,22 @@
 -- Why a run that needs a recycle always gets one, and what it leaves: over chip meaning, books and tables.
-use Rattle.std.proofs.Common.{◌≡◌, ℕ, ◌+◌, ◌-◌, ◌*◌, ◌<◌, ◌≤◌, Bool, true, false, ltb, ◌≢◌, List, [], ◌∷◌, length, get_or, Some, None, Option, sym, refl, ap, ◌∙◌, subst, add-mul, arith, ltb-true}
+use Rattle.std.proofs.Common.{◌≡◌, ℕ, ◌+◌, ◌-◌, ◌*◌, ◌<◌, ◌≤◌, true, ◌≢◌, List, [], length, Some, Option, sym, ap, ◌∙◌, subst, add-mul, arith, ltb-true}
 use native.Mathlib.Decide.{ℕ_discrete}
-use Rattle.chip.specs.Meaning.{Page, free, Meaning}
+use Rattle.chip.specs.Meaning.{Page, Meaning}
 use Rattle.plan.specs.Yield.{YieldRule, yield_rule}
-use Rattle.ledger.specs.declared.frame.Frame.{Frame}
-use Rattle.ledger.specs.Books.{Books, seat_of, tokens, highest, collector_share, used_seat, held, ran_once}
+use Rattle.ledger.specs.Books.{Books, tokens, highest, ran_once}
 use Rattle.ledger.specs.Fair.{FairBooks}
 use Rattle.ledger.specs.Steps.{owes}
-use Rattle.ledger.specs.Settled.{SettledBut, Below}
+use Rattle.ledger.specs.Settled.{SettledBut}
 use Rattle.ledger.proofs.Settles.{owing, below_owing}
 use Rattle.ledger.proofs.Tokens.{tokens_capped, collector_within, tokens_ran}
-use Rattle.history.specs.Pages.{frees, lives, deads}
+use Rattle.history.specs.Pages.{lives, deads}
 use Rattle.history.specs.History.{History}
-use Rattle.history.specs.Work.{Written, Emptying, begun, passed, copied}
+use Rattle.history.specs.Work.{Emptying, begun, passed, copied}
 use Rattle.history.proofs.Counts.{kinds_sum, lives_le}
 use Rattle.history.proofs.Room.{many_dead}
 use Rattle.pages.specs.declared.tables.Tables.{Tables}
-use Rattle.pages.specs.Tied.{maps_of, page_in, Tied}
-use Rattle.pages.specs.Recycle.{per_block, all_free, SameBlocks, CanRecycle, Recycled}
+use Rattle.pages.specs.Tied.{maps_of, page_in}
+use Rattle.pages.specs.Recycle.{per_block, all_free, CanRecycle, Recycled}
 use Rattle.store.specs.State.{paid_for, SoundAt}
 
 -- the yield rule with its subtractions where the rule has them

@@ -1,5 +1,5 @@
 -- A whole tick.
-use Rattle.std.proofs.Common.{◌≡◌, ℕ, ◌+◌, ◌*◌, ◌<◌, ◌≤◌, Bool, true, false, MatchBool, sym, refl, ap, ◌∙◌, subst, arith}
+use Rattle.std.proofs.Common.{◌≡◌, ℕ, true, false, MatchBool, sym, ◌∙◌, subst, arith}
 use Rattle.chip.specs.Meaning.{Meaning, Shaped}
 use Rattle.ledger.specs.Of.{books_of}
 use Rattle.history.specs.History.{History}
@@ -9,7 +9,7 @@ use Rattle.store.specs.declared.ticked.Ticked.{Ticked}
 use Rattle.store.specs.State.{OpenSound, Sound}
 use Rattle.store.specs.Tick.{Walk, begun}
 use Rattle.store.specs.Effects.{desk_of, Passed}
-use Rattle.store.specs.Walking.{Few, Walked}
+use Rattle.store.specs.Walking.{Walked}
 use Rattle.store.proofs.Serving.{walked_none}
 
 module _ {C H : Type 0} (means : C → Meaning) where

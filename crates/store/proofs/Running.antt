@@ -1,9 +1,9 @@
 -- One run of a seat, as a step of a tick.
-use Rattle.std.proofs.Common.{◌≡◌, ℕ, ◌+◌, ◌-◌, ◌*◌, ◌^◌, ◌<◌, ◌≤◌, Bool, true, false, List, [], ◌∷◌, length, Some, None, Option, sym, refl, ap, ◌∙◌, subst, arith}
-use Rattle.chip.specs.Meaning.{Page, Meaning}
+use Rattle.std.proofs.Common.{◌≡◌, ℕ, ◌+◌, ◌-◌, ◌*◌, ◌^◌, ◌<◌, ◌≤◌, true, ◌∷◌, length, sym, refl, ap, ◌∙◌, subst, arith}
+use Rattle.chip.specs.Meaning.{Meaning}
 use Rattle.chip.specs.Calls.{wiped}
 use Rattle.ledger.specs.declared.ledger.Ledger.{Ledger}
-use Rattle.ledger.specs.Books.{Books, seat_of, tokens, used_seat, ran_once}
+use Rattle.ledger.specs.Books.{Books, tokens, used_seat, ran_once}
 use Rattle.ledger.specs.Of.{books_of}
 use Rattle.ledger.specs.Fair.{FairBooks}
 use Rattle.ledger.specs.Steps.{owes, made_one}
@@ -22,9 +22,9 @@ use Rattle.pages.specs.Recycle.{per_block, all_free, CanRecycle, Recycled}
 use Rattle.store.specs.declared.store.Store.{Store}
 use Rattle.store.specs.declared.ticked.Ticked.{Ticked}
 use Rattle.store.specs.State.{paid_for, SoundAt}
-use Rattle.store.specs.Tick.{Desk, Recycle, Walk, runs_free, runs_recycled}
+use Rattle.store.specs.Tick.{Recycle, Walk, runs_free, runs_recycled}
 use Rattle.store.specs.Effects.{desk_of}
-use Rattle.store.specs.Walking.{Few, one_run, one_recycle, Between, CanRun, Ran}
+use Rattle.store.specs.Walking.{Few, one_run, one_recycle, CanRun, Ran}
 use Rattle.store.proofs.Collecting.{same_per, same_blocks, can_recycle, sound_ran, sound_recycled}
 
 pub small_counts : (n : ℕ) (k : Ticked) (m : Meaning) → Few n k m → n < 8192 → (k.runs + 1 < 2 ^ 32) × (k.recycles + 1 < 2 ^ 32)

@@ -1,5 +1,5 @@
 -- The runs of one seat, and the seats of a tick.
-use Rattle.std.proofs.Common.{◌≡◌, ℕ, ◌+◌, ◌-◌, ◌*◌, ◌<◌, ◌≤◌, Bool, true, false, cond, ◌&&◌, ltb, List, [], ◌∷◌, sym, refl, ap, ◌∙◌, subst, inl, inr, arith}
+use Rattle.std.proofs.Common.{◌≡◌, ℕ, ◌+◌, ◌-◌, ◌*◌, ◌<◌, ◌≤◌, true, false, ◌&&◌, ltb, sym, refl, ap, ◌∙◌, subst, inl, inr, arith}
 use Rattle.std.proofs.lemmas.Bool.{cases_Bool, cond-true, cond-false}
 use Rattle.chip.specs.Meaning.{Meaning}
 use Rattle.ledger.specs.declared.ledger.Ledger.{Ledger}
@@ -17,7 +17,7 @@ use Rattle.pages.specs.Write.{SameSize}
 use Rattle.store.specs.declared.store.Store.{Store}
 use Rattle.store.specs.declared.ticked.Ticked.{Ticked}
 use Rattle.store.specs.State.{SoundAt}
-use Rattle.store.specs.Tick.{Walk, begun, unused, enters, ends}
+use Rattle.store.specs.Tick.{Walk, unused, enters, ends}
 use Rattle.store.specs.Effects.{desk_of}
 use Rattle.store.specs.Walking.{Few, Between, CanRun, Ran, CanServe, Served, Begun, Midway, Walked}
 

@@ -4,7 +4,7 @@
 -- if_open       a question that is asked of an open store alone
 -- SameButBooks          chip, chooser and tables are as before, and the store is as open as before
 -- Opens, Admits, Notices, Takes, Returns, Saves, Reads, Ticks    what a call answers, and what the store is after it
-use Rattle.std.specs.Prelude.{◌≡◌, ℕ, ◌+◌, ◌-◌, ◌*◌, ◌<◌, ◌≤◌, Bool, true, false, cond, not, ◌&&◌, List, ◌++◌, length, replicate, Some, None, Ok, Err, Option, Result, nat_le, nat_lt}
+use Rattle.std.specs.Prelude.{◌≡◌, ℕ, ◌+◌, ◌-◌, ◌*◌, Bool, true, false, cond, not, ◌&&◌, List, length, replicate, Some, None, Ok, Err, Option, Result, nat_le, nat_lt}
 use Rattle.chip.specs.Meaning.{free, Meaning, page_at}
 use Rattle.chip.specs.Calls.{data_of, in_front}
 use Rattle.plan.specs.declared.numbers.Plan.{Plan}
@@ -45,7 +45,7 @@ use Rattle.ledger.specs.Fair.{opened as opened_books}
 use Rattle.history.specs.History.{History, hands_back}
 use Rattle.history.specs.Work.{Written}
 use Rattle.pages.specs.declared.tables.Tables.{Tables}
-use Rattle.pages.specs.Search.{total, over}
+use Rattle.pages.specs.Search.{over}
 use Rattle.pages.specs.Tied.{maps_of}
 use Rattle.pages.specs.Write.{SameSize}
 use Rattle.store.specs.declared.store.Store.{Store}

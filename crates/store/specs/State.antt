@@ -6,7 +6,7 @@
 --               true inside a tick too
 -- Sound         a store is shut, or open with all of that and with settled seats
 -- view_of       what can be seen of a store: its map, its chip's pages, and account and charge of each seat
-use Rattle.std.specs.Prelude.{◌≡◌, ℕ, ◌-◌, ◌<◌, ◌≤◌, Bool, true, false, Some, MatchBool}
+use Rattle.std.specs.Prelude.{◌≡◌, ℕ, ◌-◌, ◌<◌, ◌≤◌, Some, MatchBool}
 use Rattle.chip.specs.Meaning.{Meaning}
 use Rattle.ledger.specs.declared.frame.Frame.{Frame}
 use Rattle.ledger.specs.Books.{Books, seat_of, tokens}

@@ -1,4 +1,4 @@
-use Rattle.std.proofs.Common.{◌++◌, length, drop, Ok, sym, refl, ap, ◌∙◌, arith, rules}
+use Rattle.std.proofs.Common.{length, Ok, sym, refl, ap, ◌∙◌, arith, rules}
 use Rattle.chip.specs.Slot.{two}
 use Rattle.chip.proofs.Reading.{fetched_unwritten, fetched_too_long, fetched_whole, fetched_bytes}
 use Rattle.chip.proofs.slot.fetch.Goals as goal

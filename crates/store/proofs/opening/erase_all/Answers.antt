@@ -1,4 +1,4 @@
-use Rattle.std.proofs.Common.{◌≡◌, ◌<◌, subst, arith}
+use Rattle.std.proofs.Common.{◌≡◌, subst, arith}
 use Rattle.store.proofs.Fresh.{ErasedTo, erased_none, erased_more, erased_all}
 use Rattle.store.proofs.opening.erase_all.Goals as goal
 

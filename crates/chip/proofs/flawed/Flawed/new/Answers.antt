@@ -1,4 +1,4 @@
-use Rattle.std.proofs.Common.{◌≡◌, ◌-◌, [], length, sym, ap, ◌∙◌}
+use Rattle.std.proofs.Common.{◌-◌, [], length, sym, ap, ◌∙◌}
 use Rattle.std.proofs.lemmas.Bool.{cond-true, cond-false}
 use Rattle.chip.specs.Meaning.{nothing}
 use Rattle.chip.specs.Slot.{made}

@@ -1,4 +1,4 @@
-use Rattle.std.proofs.Common.{◌≡◌, true, false, sym, ap, ◌∙◌, arith}
+use Rattle.std.proofs.Common.{sym, ap, ◌∙◌, arith}
 use Rattle.std.proofs.lemmas.Bool.{le-ltb, false≢true}
 use Rattle.chip.specs.Gaps.{strikes}
 use Rattle.chip.proofs.Wearing.{none_left, strikes_is}

@@ -1,4 +1,4 @@
-use Rattle.std.proofs.Common.{◌≡◌, ◌-◌, ◌<◌, ◌≤◌, length, sym, refl, ap, ◌∙◌, subst, arith}
+use Rattle.std.proofs.Common.{◌≡◌, ◌-◌, ◌<◌, ◌≤◌, ap, ◌∙◌, subst, arith}
 use Rattle.chip.specs.Calls.{erase_told, erased}
 use Rattle.chip.specs.Pairs.{joined, Side, ErasesOne}
 use Rattle.chip.proofs.Joining.{front_parts, block_first, block_second}

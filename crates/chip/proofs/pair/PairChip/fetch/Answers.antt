@@ -1,4 +1,4 @@
-use Rattle.std.proofs.Common.{◌≡◌, ◌-◌, length, sym, refl, ap, ◌∙◌, subst, arith}
+use Rattle.std.proofs.Common.{◌≡◌, ◌-◌, length, ap, ◌∙◌, arith}
 use Rattle.chip.specs.Calls.{fetched, fetched_into}
 use Rattle.chip.specs.Pairs.{joined}
 use Rattle.chip.proofs.Joining.{front_parts, fetch_first, fetch_second, into_first, into_second}

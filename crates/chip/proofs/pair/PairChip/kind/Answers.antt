@@ -1,4 +1,4 @@
-use Rattle.std.proofs.Common.{◌≡◌, ◌-◌, length, sym, refl, ap, ◌∙◌, subst, arith}
+use Rattle.std.proofs.Common.{◌≡◌, ◌-◌, length, ap, ◌∙◌, arith}
 use Rattle.chip.specs.Calls.{kind_told}
 use Rattle.chip.specs.Pairs.{joined}
 use Rattle.chip.proofs.Joining.{front_parts, kind_first, kind_second}

@@ -1,4 +1,4 @@
-use Rattle.std.proofs.Common.{◌≡◌, ◌-◌, ◌<◌, ◌≤◌, length, sym, refl, ap, ◌∙◌, subst, arith}
+use Rattle.std.proofs.Common.{◌≡◌, ◌-◌, ◌<◌, ◌≤◌, length, sym, ap, subst, arith}
 use Rattle.chip.specs.Calls.{Programmed}
 use Rattle.chip.specs.Pairs.{joined, Side, ProgramsOne}
 use Rattle.chip.proofs.Joining.{front_parts, program_first, program_second, side_first, side_second}

@@ -1,8 +1,8 @@
-use Rattle.std.proofs.Common.{◌≡◌, ℕ, ◌*◌, ◌<◌, ◌≤◌, sym, refl, arith}
+use Rattle.std.proofs.Common.{◌≡◌, ℕ, ◌*◌, ◌<◌, ◌≤◌, sym, arith}
 use Rattle.std.proofs.lemmas.Nat.{mul-le}
 use Rattle.chip.specs.Slot.{wide}
 use Rattle.chip.specs.Shaping.{Fit, fit}
-use Rattle.chip.proofs.Placing.{no_blocks, least_blocks, block_within}
+use Rattle.chip.proofs.Placing.{block_within}
 use Rattle.chip.proofs.plain.Plain.block.Goals as goal
 
 pub returns : goal.returns

@@ -1,4 +1,4 @@
-use Rattle.std.proofs.Common.{Ok, sym, ap, ◌∙◌}
+use Rattle.std.proofs.Common.{Ok, ap, ◌∙◌}
 use Rattle.chip.specs.Calls.{kind_of}
 use Rattle.chip.specs.Slot.{page_of}
 use Rattle.chip.proofs.Placing.{read_slot, told_kind}

@@ -1,5 +1,5 @@
-use Rattle.std.proofs.Common.{◌≡◌, ◌+◌, ◌-◌, length, take, drop, sym, ap, ◌∙◌}
-use Rattle.chip.specs.Slot.{all_ones, slot_at}
+use Rattle.std.proofs.Common.{sym, ap, ◌∙◌}
+use Rattle.chip.specs.Slot.{all_ones}
 use Rattle.chip.proofs.Placing.{read_slot, asks_not_free, asks_too_long, asks_nothing}
 use Rattle.chip.proofs.plain.Plain.open.Goals as goal
 

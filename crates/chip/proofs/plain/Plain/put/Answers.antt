@@ -1,4 +1,4 @@
-use Rattle.std.proofs.Common.{refl, ap, ◌∙◌}
+use Rattle.std.proofs.Common.{refl}
 use Rattle.chip.specs.Slot.{slot_of}
 use Rattle.chip.proofs.Slots.{length_slot}
 use Rattle.chip.proofs.Placing.{put_slot}

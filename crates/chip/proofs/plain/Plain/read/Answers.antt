@@ -1,4 +1,4 @@
-use Rattle.std.proofs.Common.{length, sym, ap, ◌∙◌}
+use Rattle.std.proofs.Common.{length, ap, ◌∙◌}
 use Rattle.chip.specs.Calls.{fetched_page}
 use Rattle.chip.specs.Slot.{page_of, fetched_onto}
 use Rattle.chip.proofs.Placing.{read_slot, told_fetch, told_into}

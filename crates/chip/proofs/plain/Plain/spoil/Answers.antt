@@ -1,4 +1,4 @@
-use Rattle.std.proofs.Common.{length, replicate, refl, ap, ◌∙◌, arith}
+use Rattle.std.proofs.Common.{replicate, refl, ap, ◌∙◌}
 use Rattle.std.proofs.lemmas.List.{length-replicate}
 use Rattle.chip.specs.Slot.{wide, failed_slot}
 use Rattle.chip.proofs.Placing.{put_slot, length_slot_at}

@@ -1,4 +1,4 @@
-use Rattle.std.proofs.Common.{refl, ap, ◌∙◌}
+use Rattle.std.proofs.Common.{refl}
 use Rattle.chip.proofs.Placing.{put_block}
 use Rattle.chip.proofs.plain.Plain.wipe.Goals as goal
 

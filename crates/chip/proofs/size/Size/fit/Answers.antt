@@ -1,4 +1,4 @@
-use Rattle.std.proofs.Common.{◌≡◌, Bool, ◌&&◌, eqb, sym, ap, ◌∙◌}
+use Rattle.std.proofs.Common.{Bool, ◌&&◌, eqb, ap, ◌∙◌}
 use Rattle.chip.specs.Slot.{fits, taken}
 use Rattle.chip.proofs.size.Size.fit.Goals as goal
 

@@ -1,4 +1,4 @@
-use Rattle.std.proofs.Common.{◌≡◌, ◌*◌, ◌<◌, ◌≤◌, mul-le-mul, arith}
+use Rattle.std.proofs.Common.{◌<◌, ◌≤◌, mul-le-mul, arith}
 use Rattle.ledger.specs.Seats.{due}
 use Rattle.ledger.proofs.Facts.{fair_of}
 use Rattle.ledger.proofs.Jobs.{account_within, due_within}

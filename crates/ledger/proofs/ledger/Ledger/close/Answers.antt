@@ -1,7 +1,6 @@
-use Rattle.std.proofs.Common.{◌≡◌, ℕ, ◌+◌, Bool, false, List, set, sym, subst, arith}
+use Rattle.std.proofs.Common.{◌≡◌, ◌+◌, false, arith}
 use Rattle.std.proofs.lemmas.Bool.Decides.{nat_tests}
 use Rattle.ledger.specs.Books.{used_seat}
-use Rattle.ledger.specs.Fair.{Fair}
 use Rattle.ledger.specs.Of.{books_of}
 use Rattle.ledger.proofs.Ends.{back, ended_unused, turned_put}
 use Rattle.ledger.proofs.Puts.{put_as_with}

@@ -1,4 +1,3 @@
-use Rattle.std.proofs.Common.{arith}
 use Rattle.ledger.proofs.Jobs.{out_paid}
 use Rattle.ledger.proofs.Puts.{put_as, saved_put}
 use Rattle.ledger.proofs.ledger.Ledger.debit.Goals as goal

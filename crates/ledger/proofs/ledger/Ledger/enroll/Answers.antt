@@ -1,4 +1,4 @@
-use Rattle.std.proofs.Common.{◌≡◌, sym, ap, ◌∙◌, arith}
+use Rattle.std.proofs.Common.{sym, ap, ◌∙◌, arith}
 use Rattle.ledger.specs.Seats.{seated}
 use Rattle.ledger.proofs.Admits.{seated_put}
 use Rattle.ledger.proofs.Puts.{put_as_with}

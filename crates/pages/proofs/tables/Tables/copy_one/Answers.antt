@@ -1,4 +1,4 @@
-use Rattle.std.proofs.Common.{◌&&◌, ◌⊎◌, length, refl, ap, ◌∙◌, inl, inr}
+use Rattle.std.proofs.Common.{length, refl, ap, ◌∙◌, inl}
 use Rattle.history.specs.Pages.{is_live}
 use Rattle.pages.specs.Tied.{maps_of}
 use Rattle.pages.proofs.Copying.{unfetched_dead, fetched_told, unnamed, named, moved_on}

@@ -1,4 +1,4 @@
-use Rattle.std.proofs.Common.{◌≡◌, ℕ, ◌+◌, ◌*◌, ◌^◌, ◌<◌, ◌≤◌, length, sym, refl, ap, ◌∙◌, subst, arith}
+use Rattle.std.proofs.Common.{◌≡◌, ◌+◌, ◌*◌, ◌<◌, ◌≤◌, length, sym, subst, arith}
 use Rattle.pages.specs.declared.emptied.Emptied.{Emptied}
 use Rattle.pages.specs.Copy.{CanCopy}
 use Rattle.pages.specs.Recycle.{EmptiedTo, added}

@@ -1,4 +1,4 @@
-use Rattle.std.proofs.Common.{◌≡◌, ℕ, Bool, false, not, ◌&&◌, get_or, sym, ap, ◌∙◌, arith}
+use Rattle.std.proofs.Common.{◌≡◌, ℕ, false, not, ◌&&◌, sym, ap, ◌∙◌, arith}
 use Rattle.chip.specs.Meaning.{Meaning, page_at}
 use Rattle.chip.specs.Calls.{is_free}
 use Rattle.history.specs.Work.{next_page}

@@ -1,4 +1,4 @@
-use Rattle.std.proofs.Common.{◌≡◌, ℕ, ◌+◌, ◌-◌, ◌<◌, ◌≤◌, false, length, get_or}
+use Rattle.std.proofs.Common.{◌≡◌, ℕ, ◌+◌, ◌-◌, ◌<◌, ◌≤◌, false, get_or}
 use Rattle.chip.specs.Meaning.{free}
 use Rattle.chip.specs.Calls.{is_free}
 use Rattle.history.specs.Work.{round}

@@ -1,4 +1,4 @@
-use Rattle.std.proofs.Common.{◌≡◌, ◌+◌, ◌-◌, ◌^◌, min, get_or, sym, refl, ap, ◌∙◌, subst}
+use Rattle.std.proofs.Common.{◌≡◌, ◌+◌, ◌-◌, ◌^◌, min, get_or, ap, ◌∙◌}
 use Rattle.pages.proofs.Wiping.{free_fits, wiped_so, small_sum, tables_so}
 use Rattle.pages.proofs.tables.Tables.wipe.Goals as goal
 

@@ -1,7 +1,6 @@
-use Rattle.std.proofs.Common.{◌≡◌, ◌+◌, true, false, length, Some, None, Ok, Err, sym, refl, ap, ◌∙◌, subst, arith}
+use Rattle.std.proofs.Common.{true, false, length, Ok, sym, ap, ◌∙◌, subst, arith}
 use Rattle.chip.specs.Meaning.{Meaning}
 use Rattle.chip.specs.Calls.{asks_program, Programmed}
-use Rattle.pages.specs.Search.{over, Found}
 use Rattle.pages.proofs.Truth.{countable, replaceable}
 use Rattle.pages.proofs.Writing.{few_failures, trying_none, trying_stuck, trying_refused, trying_more, trying_good, failed_allowance}
 use Rattle.pages.proofs.tables.Tables.write.Goals as goal

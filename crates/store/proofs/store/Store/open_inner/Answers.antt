@@ -1,4 +1,4 @@
-use Rattle.std.proofs.Common.{◌≡◌, sym, refl, ap, ◌∙◌}
+use Rattle.std.proofs.Common.{sym, refl, ap, ◌∙◌}
 use Rattle.chip.specs.declared.words.Shape.{Shape}
 use Rattle.chip.specs.Meaning.{Meaning}
 use Rattle.store.specs.Effects.{blank}

@@ -1,7 +1,5 @@
-use Rattle.std.proofs.Common.{◌≡◌, ℕ, ◌+◌, ◌*◌, ◌<◌, ◌≤◌, true, false, MatchBool, sym, refl, ap, ◌∙◌, subst, arith}
-use Rattle.chip.specs.Meaning.{Meaning, Shaped}
+use Rattle.std.proofs.Common.{◌*◌, arith}
 use Rattle.store.specs.declared.ticked.Ticked.{Ticked}
-use Rattle.store.specs.State.{OpenSound, Sound}
 use Rattle.store.proofs.Serving.{walked_can, walked_more}
 use Rattle.store.proofs.Passing.{open_of, walked_begun, passed_all}
 use Rattle.store.proofs.store.Store.pass.Goals as goal

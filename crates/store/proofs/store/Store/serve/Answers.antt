@@ -1,4 +1,4 @@
-use Rattle.std.proofs.Common.{◌≡◌, ℕ, ◌+◌, ◌<◌, ◌≤◌, true, false, sym, refl, ap, ◌∙◌, subst, arith}
+use Rattle.std.proofs.Common.{◌≡◌, ◌+◌, true, false, sym, ◌∙◌, subst, arith}
 use Rattle.ledger.specs.Books.{used_seat}
 use Rattle.ledger.specs.Of.{books_of}
 use Rattle.store.specs.Walking.{Midway}

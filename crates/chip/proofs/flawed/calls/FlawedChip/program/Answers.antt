@@ -1,7 +1,5 @@
-use Rattle.std.proofs.Common.{◌≡◌, ◌-◌, true, false, cond, not, sym, refl, ap, ◌∙◌}
+use Rattle.std.proofs.Common.{◌-◌, cond, not, sym, ap, ◌∙◌}
 use native.Mathlib.Nat.{sub-zero}
-use Rattle.chip.specs.Gaps.{strikes}
-use Rattle.chip.specs.Makes.{gaps_of}
 use Rattle.chip.proofs.Flawing.{programmed_good, programmed_failed}
 use Rattle.chip.proofs.flawed.calls.FlawedChip.program.Goals as goal
 
