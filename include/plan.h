@@ -4,7 +4,7 @@
  * back `alpha` pages. alpha is 1 to 32, period 1 to 60,000, writes 1 to 1,024. Each function gives 0 where one
  * of the three is out of its range, and never 0 otherwise.
  *
- * The functions keep no state and may be called from anywhere. Link libplan.a, which `rt staticlib plan` makes.
+ * The functions keep no state and may be called from anywhere. Link libplan.a, which tools/libplan makes.
  */
 #ifndef PLAN_H
 #define PLAN_H
