@@ -4,7 +4,7 @@
 -- worn          the gaps after an accepted program, the one that counts first
 -- verdicts      what so many accepted programs in a row answer; `worn_by` the gaps that are then left
 -- good_gaps     at most eight gaps, none of them 0
--- GapLaw       a gap g lets g - 1 accepted programs pass and fails the next; then the next gap counts
+-- GapLaw        a gap g lets g - 1 accepted programs pass and fails the next; then the next gap counts
 use Rattle.std.specs.Prelude.{◌≡◌, ℕ, zero, suc, ◌+◌, ◌-◌, Bool, true, false, cond, not, ◌&&◌, List, [], ◌∷◌, ◌++◌, length, replicate, nat_le, nat_lt}
 
 abbrev pub strikes : List ℕ → Bool

@@ -3,7 +3,7 @@
 -- means_of       what memory means to a chip of some size, with so many failures left
 -- Whole          the sizes are in range, and memory is as long as they ask
 -- plain_means    what a plain chip means: its memory, and no failure
--- NeverFails    a program that was accepted was good
+-- NeverFails     a program that was accepted was good
 -- flawed_means   what a flawed chip means: its memory, and as many failures as it has gaps left
 -- gaps_of        the gaps that a flawed chip has left, the one that counts first
 -- Counted        which program fails, and what it leaves of the gaps

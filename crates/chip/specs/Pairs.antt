@@ -3,8 +3,8 @@
 -- joinable         the rule of a pair: pages alike, and blocks and allowances that add up within a chip's limits
 -- joined           what two chips mean as one: the first one's pages come first, allowances add; nothing outside the rule
 -- side_of          which of the two a page lies in; `block_side` which of the two a block lies in
--- ProgramsOne     a program reached just one of the two, and left the other as it was
--- ErasesOne       the same of an erase
+-- ProgramsOne      a program reached just one of the two, and left the other as it was
+-- ErasesOne        the same of an erase
 -- joined_shaped    a pair has the shape that every chip has
 use Rattle.std.specs.Prelude.{◌≡◌, ℕ, ◌+◌, ◌-◌, ◌*◌, ◌≤◌, Bool, true, cond, ◌&&◌, List, ◌++◌, length, Err, Result, ◌==◌, nat_le, nat_lt}
 use Rattle.std.proofs.Common.{inl, inr, sym, ap, subst, ◌∙◌, add-mul, arith}

@@ -1,11 +1,11 @@
 -- A seat's record says what its history counts; and the theorem that it always does.
 --
--- InStep       the record of a seat in use, serving or leaving, against its history
+-- InStep        the record of a seat in use, serving or leaving, against its history
 -- Left          a seat that was in use once and is empty now
 -- Coupled       the one or the other, by the seat's status
 -- Allowed       what the seats' history says of an entry: an accepted call was allowed, a refused one was not
 -- Shows         what can be seen of accounts and charges is what the records have
--- SeatsKept    the theorem
+-- SeatsKept     the theorem
 use Rattle.std.specs.Prelude.{◌≡◌, ℕ, ◌+◌, ◌*◌, ◌<◌, ◌≤◌, Bool, true, false, [], ◌∷◌, Some}
 use Rattle.plan.specs.declared.numbers.Plan.{Plan}
 use Rattle.plan.specs.Plan.{planned}

@@ -1,7 +1,7 @@
 -- Seats, map and pages of an open store, as they follow from a history of its calls.
 --
 -- Follows       between two calls
--- WithinTick   during a tick, after so many recycles with so many copies and tries
+-- WithinTick    during a tick, after so many recycles with so many copies and tries
 use Rattle.std.specs.Prelude.{◌≡◌, ℕ, List, [], Option}
 use Rattle.chip.specs.Meaning.{Page}
 use Rattle.ledger.specs.declared.frame.Frame.{Frame}

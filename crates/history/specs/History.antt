@@ -13,7 +13,7 @@
 -- permits_out   permits granted in the tenure, less those handed back, less its stored saves
 -- under_notice  a notice was accepted in the tenure
 -- elapsed       e: the ticks since the newest start of a meta-period, which is the admission and each σ-th tick after it
--- period        the entries since that start; period-start the history as it stood then
+-- period        the entries since that start; period_start the history as it stood then
 -- charged       the permits out at that start, plus those granted since, less those handed back since
 -- runs_made     ⌊e·k/σ⌋
 -- emptied       a meta-period has started since the notice

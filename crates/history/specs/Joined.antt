@@ -1,8 +1,8 @@
 -- The promise, from the two theories: of seats, and of pages.
 --
--- AllOnPages    what every entry has to say of pages, besides what it says of its seat
--- PromiseStands  seats that move by the rules, work on pages as the store does it, and entries that say of pages what they should: the promise
--- Promise-reaches the promise of an opened store, with its frame read off the chip at any time
+-- AllOnPages      what every entry has to say of pages, besides what it says of its seat
+-- PromiseStands   seats that move by the rules, work on pages as the store does it, and entries that say of pages what they should: the promise
+-- PromiseReaches  the promise of an opened store, with its frame read off the chip at any time
 use Rattle.std.specs.Prelude.{◌≡◌, ℕ, ◌<◌, ◌≤◌, [], ◌∷◌, length, Some, None}
 use Rattle.chip.specs.Meaning.{Meaning}
 use Rattle.ledger.specs.declared.frame.Frame.{Frame}

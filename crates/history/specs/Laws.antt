@@ -1,15 +1,15 @@
 -- The theorems on pages, map and history.
 --
--- PlaceIsOne       a search from one start has one place at most
--- WorkKeeps         whatever the store's work was, what was saved is kept, the map names the live pages, and the chip holds what its answers say
--- WorkCounts        dead pages by map and pages are dead pages by the history
--- LiveEraseBreaks  with a live page in the block that is erased, no map and no pages can keep all three
--- ChoiceYields      a block that is named under the yield law, while free pages do not exceed all tokens by the yield, has at least
+-- PlaceIsOne         a search from one start has one place at most
+-- WorkKeeps          whatever the store's work was, what was saved is kept, the map names the live pages, and the chip holds what its answers say
+-- WorkCounts         dead pages by map and pages are dead pages by the history
+-- LiveEraseBreaks    with a live page in the block that is erased, no map and no pages can keep all three
+-- ChoiceYields       a block that is named under the yield law, while free pages do not exceed all tokens by the yield, has at least
 --                    the yield in dead pages; the pages to be copied and its free pages fill no more than the rest
--- WriteCosts        a write takes as many free pages as it makes tries
--- RecycleKeeps      a whole recycle: all is kept, the copies are the pages that were live, they and the tries are counted by the
+-- WriteCosts         a write takes as many free pages as it makes tries
+-- RecycleKeeps       a whole recycle: all is kept, the copies are the pages that were live, they and the tries are counted by the
 --                    history, and the free pages gain what the block had not free, less the tries
--- RecycleRight      so a recycle of a block with enough dead pages is entered as it should be
+-- RecycleRight       so a recycle of a block with enough dead pages is entered as it should be
 use Rattle.std.specs.Prelude.{◌≡◌, ℕ, ◌+◌, ◌-◌, ◌*◌, ◌/◌, ◌<◌, ◌≤◌, Bool, List, ◌∷◌, length, Some, Option, slice_index, slice_index_or}
 use Rattle.chip.specs.Meaning.{Page, free}
 use Rattle.chip.specs.Calls.{wiped}

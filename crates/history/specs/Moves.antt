@@ -1,6 +1,6 @@
 -- Which entry moves a seat's record, how, and when it may.
 --
--- InUse        a seat that serves or is under notice
+-- InUse         a seat that serves or is under notice
 -- Grants        a serving seat with fewer than its writes charged
 -- Pays          a plan whose runs win back what its writes take
 -- Step          what an entry makes of the record of one seat

@@ -6,16 +6,16 @@
 -- Named         the map names just the pages that took the newest good programs
 -- Held          the chip's pages are what its answers say
 -- Vacant        a seat was never admitted, or was emptied since
--- MayNotice, MayTake, MayReturn, MaySave    what the history allows
+-- MayNotice, MayTake, MayReturn, MaySave        what the history allows
 -- is_try, is_good, is_asked    programs, good programs, questions to the chooser
 -- Recycled      a recycle that ends empties the block that the chooser named last in this call, and copied few pages
 -- during        what chip and chooser answered during the call that is about to be entered
 -- Right         an entry is right by the history before it: an accepted call was allowed and a refused one was not,
 --               an answer is what the history counts, and a recycle was worth its while
 -- Every         every entry of a history is right
--- SeatNow      account and charge of a seat are what its history counts
+-- SeatNow       account and charge of a seat are what its history counts
 -- Promise       all of it, for a store that was opened
--- ShutPromise  for a store that is still shut: every call so far was refused
+-- ShutPromise   for a store that is still shut: every call so far was refused
 -- Promised      the one or the other, by whether an opening was accepted
 use Rattle.std.specs.Prelude.{◌≡◌, ℕ, ◌+◌, ◌-◌, ◌*◌, ◌<◌, ◌≤◌, Bool, true, false, List, [], ◌∷◌, length, Some, None, Option, slice_index_or}
 use Rattle.chip.specs.Meaning.{Page, free, written, Meaning}

@@ -7,7 +7,7 @@
 -- lent        what the seats in use have had from the pool
 -- ask         one question, and the refusal if the answer is no
 -- asks_admit, asks_notice, asks_take, asks_return    the first question of a call that fails, if one does;
---             hand back and save ask asks-return
+--             hand back and save ask asks_return
 -- admitted, noticed, taken, returned, spent    the books after an accepted admit, notice, take, hand back, stored save
 -- paid        the spare account pays for a failed try
 -- entered, ran_once, ended    the parts of a tick: its clock, one run, and the end of the meta-period

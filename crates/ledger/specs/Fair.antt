@@ -1,10 +1,10 @@
 -- What is true of the books at every moment, also inside a tick.
 --
--- JobFair    a seat in use: its plan pays for itself, and its charge, its account and its clock belong together
--- SeatFair   an empty seat is nobody's, and a seat in use is a fair job's
+-- JobFair     a seat in use: its plan pays for itself, and its charge, its account and its clock belong together
+-- SeatFair    an empty seat is nobody's, and a seat in use is a fair job's
 -- Fair        eight fair seats, a pool that has lent what they had from it, a spare account within the allowance,
 --             and the yield rule
--- FairBooks  the same of books
+-- FairBooks   the same of books
 -- Found       a seat in use, as the books have it under its number
 -- Affordable  a plan that pays for itself, and that pool and yield rule allow
 -- stands      the frames that a ledger can be opened with

@@ -1,8 +1,8 @@
 -- How a seat's clock and its runs stand between the calls, and inside a tick.
 --
--- SeatSettled   a seat in use is inside its meta-period, and the runs that are due have been made
+-- SeatSettled    a seat in use is inside its meta-period, and the runs that are due have been made
 -- Settled        so is every seat: this holds between the calls
--- SettledBut    so is every seat but the one that a tick is at
+-- SettledBut     so is every seat but the one that a tick is at
 -- Below          no seat in use has made all runs of its meta-period: this holds whenever a block is chosen
 use Rattle.std.specs.Prelude.{◌≡◌, ℕ, ◌<◌, true, ◌≢◌}
 use Rattle.ledger.specs.declared.seat.Seat.{Seat}

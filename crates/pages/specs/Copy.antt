@@ -1,11 +1,11 @@
 -- What copying a page out of its block does.
 --
 -- live_in      whether a chip page is live, by the tables and the chip
--- CanCopy     the tables tell the truth, the buffer takes any page, and if the page is live there is room for its copy
+-- CanCopy      the tables tell the truth, the buffer takes any page, and if the page is live there is room for its copy
 --              outside its block
 -- Moved        a live page was written elsewhere
 -- Copied       a page was not live, and nothing was done; or it was moved by so many tries
--- Copies       what the call answers: under Can-copy it always ends
+-- Copies       what the call answers: under CanCopy it always ends
 use Rattle.std.specs.Prelude.{◌≡◌, ℕ, ◌+◌, ◌<◌, ◌≤◌, Bool, true, false, ◌⊎◌, List, length, Some, None, Option}
 use Rattle.chip.specs.Meaning.{written, Meaning}
 use Rattle.history.specs.Pages.{is_live, frees}

@@ -1,12 +1,12 @@
 -- What a recycle does: every live page of a block is copied elsewhere, in ascending order, and the block is erased.
 --
 -- free_in, live_count, dead_count    the free, live and dead pages of a block
--- CanEmpty     the tables tell the truth, the buffer takes any page, and the free pages suffice for the copies of a
+-- CanEmpty      the tables tell the truth, the buffer takes any page, and the free pages suffice for the copies of a
 --               block's live pages outside it, whichever programs fail
--- EmptiedTo    after the first pages of a block: so many copies by so many tries
--- Empties       what emptying a block answers: under Can-empty it always ends
+-- EmptiedTo     after the first pages of a block: so many copies by so many tries
+-- Empties       what emptying a block answers: under CanEmpty it always ends
 -- wiped_tables  the tables after a block without live pages was erased; Wipes what the erase answers
--- CanRecycle   there is a block with α dead pages, and room for the copies of any such block
+-- CanRecycle    there is a block with α dead pages, and room for the copies of any such block
 -- Recycled      a block with at least α dead pages was emptied and erased; Recycles what the recycle answers
 use Rattle.std.specs.Prelude.{◌≡◌, ℕ, ◌+◌, ◌-◌, ◌*◌, ◌<◌, ◌≤◌, cond, ◌∷◌, length, Some, None, Option, nat_lt, slice_index, slice_set}
 use Rattle.chip.specs.Meaning.{Meaning}

@@ -1,11 +1,11 @@
 -- What a write does: tries at one place after another until a program is good.
 --
 -- held         the free pages of the block that is passed over
--- CanWrite    the tables tell the truth, label and length are in range, and outside the block that is passed over
+-- CanWrite     the tables tell the truth, label and length are in range, and outside the block that is passed over
 --              there are more free pages than programs that may still fail
--- SameSize    two meanings of one chip: blocks, pages and bytes never change
+-- SameSize     two meanings of one chip: blocks, pages and bytes never change
 -- Wrote        a write of so many tries
--- Writes       what a write answers: under Can-write it always ends in a good program
+-- Writes       what a write answers: under CanWrite it always ends in a good program
 use Rattle.std.specs.Prelude.{◌≡◌, ℕ, ◌+◌, ◌*◌, ◌<◌, ◌≤◌, List, length, Some, None, Option}
 use Rattle.chip.specs.Meaning.{Page, Meaning}
 use Rattle.history.specs.Pages.{frees}

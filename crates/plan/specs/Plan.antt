@@ -6,7 +6,7 @@
 -- ⌈_/_⌉        division rounded up
 -- plan_of      the plan: meta-period σ, writes W and runs k
 -- planned      the plan of numbers in range, and nothing of any others
--- PlanLaw     what makes three numbers a plan of that job at that yield
+-- PlanLaw      what makes three numbers a plan of that job at that yield
 use Rattle.std.specs.Prelude.{◌≡◌, ℕ, ◌+◌, ◌-◌, ◌*◌, ◌/◌, ◌<◌, ◌≤◌, Bool, cond, ◌&&◌, Some, None, Option, nat_le, nat_lt}
 use Rattle.plan.specs.declared.numbers.Plan.{Plan}
 

@@ -4,9 +4,9 @@
 -- M            page numbers offered
 -- H            the most tokens that can be out when a block is chosen
 -- α            the yield: how many pages a run of the collector wins back
--- YieldRule   the rule with every subtraction moved across, so that it speaks of sums alone
+-- YieldRule    the rule with every subtraction moved across, so that it speaks of sums alone
 -- yield_rule   the same as a test
--- Integer-rule N·π − M − H − (α − 1) > (α − 1)·N, over the integers
+-- IntegerRule  N·π − M − H − (α − 1) > (α − 1)·N, over the integers
 use Rattle.std.specs.Prelude.{ℕ, ◌+◌, ◌*◌, ◌<◌, Bool, pos, ◌-ℤ◌, ◌*ℤ◌, ◌<ℤ◌, nat_lt}
 
 abbrev pub YieldRule : ℕ → ℕ → ℕ → ℕ → ℕ → Type 0

@@ -1,13 +1,13 @@
 -- What lines and words have to do with the bytes of a script.
 --
 -- Clear        no byte is the mark
--- AllClear    no part has the mark in it
+-- AllClear     no part has the mark in it
 -- ended        parts, each with the mark after it
 -- parted       parts with the mark between them
--- EndsSome    there is a last part, and it is not empty
--- LinesLaw    the lines, each with a line feed after it, are the script; where the last one lacks it, it is not empty
--- WordsLaw    the words, with blanks between them, are the line
--- CutLaw      a script is its lines, and each line is its words
+-- EndsSome     there is a last part, and it is not empty
+-- LinesLaw     the lines, each with a line feed after it, are the script; where the last one lacks it, it is not empty
+-- WordsLaw     the words, with blanks between them, are the line
+-- CutLaw       a script is its lines, and each line is its words
 use Rattle.std.specs.Prelude.{◌≡◌, ℕ, ◌<◌, false, ◌⊎◌, List, [], ◌∷◌, ◌++◌, length, ◌==◌}
 use Rattle.script.specs.Text.{blank, line_feed, lines_of, words_of}
 

@@ -1,6 +1,6 @@
 -- What is true of a store and of the history of its calls, and how a call that leaves chip and tables alone keeps it.
 --
--- OpenInv      an open store is sound, and seats, map and pages follow from the history
+-- OpenInv       an open store is sound, and seats, map and pages follow from the history
 -- Inv           that, or a store that is shut and has refused every call
 -- Plain         an entry that says nothing of pages
 use Rattle.std.proofs.Common.{◌≡◌, ℕ, ◌<◌, Bool, true, false, ◌∷◌, length, Some, None, Ok, Err, MatchBool, Option, Result, sym, refl, ap, ◌∙◌, subst, arith}

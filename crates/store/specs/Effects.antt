@@ -1,8 +1,8 @@
 -- What each call of a store asks, answers and does.
 --
--- asks_open, asks_save    the first question of a call that fails, if one does; asks-frame and asks-page are their parts
+-- asks_open, asks_save    the first question of a call that fails, if one does; asks_frame and asks_page are their parts
 -- if_open       a question that is asked of an open store alone
--- SameButBooks          chip, chooser and tables are as before, and the store is as open as before
+-- SameButBooks            chip, chooser and tables are as before, and the store is as open as before
 -- Opens, Admits, Notices, Takes, Returns, Saves, Reads, Ticks    what a call answers, and what the store is after it
 use Rattle.std.specs.Prelude.{◌≡◌, ℕ, ◌+◌, ◌-◌, ◌*◌, Bool, true, false, cond, not, ◌&&◌, List, length, replicate, Some, None, Ok, Err, Option, Result, nat_le, nat_lt}
 use Rattle.chip.specs.Meaning.{free, Meaning, page_at}

@@ -2,7 +2,7 @@
 --
 -- frame_for     what an opening fixes: the chip's sizes and allowance, and the three numbers that it is given
 -- paid_for      the spare account has paid for so many failed tries
--- SoundAt      tables, ledger and chip of an open store belong together, and every token has a free page: this is
+-- SoundAt       tables, ledger and chip of an open store belong together, and every token has a free page: this is
 --               true inside a tick too
 -- Sound         a store is shut, or open with all of that and with settled seats
 -- view_of       what can be seen of a store: its map, its chip's pages, and account and charge of each seat
