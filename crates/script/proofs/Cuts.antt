@@ -90,9 +90,9 @@ pub line_out : (bytes : List ℕ) (from end : ℕ) → from < length bytes → e
 line_out bytes from end within ends =
     let within' : from ≤ length bytes = omega arith in
     let line = take (end - from) (drop from bytes) in
-    let All-words = cond-true (leb 0 (length line)) (words_of line) [] (le-leb 0 (length line) (omega arith)) in
+    let all_words = cond-true (leb 0 (length line)) (words_of line) [] (le-leb 0 (length line) (omega arith)) in
     elim (cases_lt end (length bytes)) [
-      | inl short ↦ ap (map words_of) (first_part line_feed bytes from end within' ends short []) ∙ ap (λ ws. ws ∷ script_of (drop (end + 1) bytes)) (sym All-words)
+      | inl short ↦ ap (map words_of) (first_part line_feed bytes from end within' ends short []) ∙ ap (λ ws. ws ∷ script_of (drop (end + 1) bytes)) (sym all_words)
       | inr long ↦ (let whole : end ≡ length bytes = omega (arith, end_within line_feed bytes from end within' ends) in let one = ap (map words_of) (cut_lines line_feed (drop from bytes) (no_mark line_feed bytes from end within' ends whole) (omega (arith, length-drop from bytes))) in let all = ap words_of (last_part line_feed bytes from end within' ends whole) in let none = ap script_of (drop_all (end + 1) bytes (omega arith)) in cc)
     ]
 

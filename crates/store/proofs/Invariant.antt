@@ -84,9 +84,9 @@ module _ {C H : Type 0} (means : C → Meaning) where
         → ((k : ℕ) → Step s.ledger.frame k e (seat_of (books_of s.ledger) k) (seat_of after k))
         → OpenInv h s → Inv (e ∷ h) t
     call_open e after is rest books frame sound call still answered says step inv =
-        let still_Open = rest.is_open ∙ is in
-        open_inv (e ∷ h) t still_Open (record {
-          sound = sound_open t still_Open sound;
+        let still_open = rest.is_open ∙ is in
+        open_inv (e ∷ h) t still_open (record {
+          sound = sound_open t still_open sound;
           follows = follows_along (e ∷ h) s t (ap (λ b. b.frame) books ∙ frame) rest
               (call_follows inv.follows e (λ i. seat_of (books_of t.ledger) i) call still answered says
               (subst (λ b. (k : ℕ) → Step s.ledger.frame k e (seat_of (books_of s.ledger) k) (seat_of b k)) (sym books) step));

@@ -75,15 +75,15 @@ module _ {C H : Type 0} (means : C → Meaning) (s t : Store C H) (i n : ℕ) (d
   stored_inv h h' tries none e inv =
       let b = books_of s.ledger in
       let can = savable s.is_open b i n (length d) none in
-      let still_Open = e.is_open ∙ can.0 in
+      let still_open = e.is_open ∙ can.0 in
       let here = inv_open means h s can.0 inv in
       let past = did i (stored n d tries) ∷ h' in
       let seats = λ (k : ℕ). seat_of (books_of t.ledger) k in
       let step : (k : ℕ) → Step s.ledger.frame k (did i (stored n d tries)) (seat_of b k) (seats k) =
       subst (λ (c : Books). (k : ℕ) → Step s.ledger.frame k (did i (stored n d tries)) (seat_of b k) (seat_of c k)) (sym e.books)
       (stored_step b (eight_seats means s) i n d tries can.1.permit) in
-      open_inv means past t still_Open (record {
-        sound = sound_open means t still_Open e.sound;
+      open_inv means past t still_open (record {
+        sound = sound_open means t still_open e.sound;
         follows = subst (λ f. Follows f past seats (maps_of t.tables) (means t.chip).pages) (sym (ap (λ (c : Books). c.frame) e.books))
             (save_follows here.follows seats i n d can.1.known can.1.fits e.wrote step);
       })
