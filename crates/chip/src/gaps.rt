@@ -1,4 +1,4 @@
-ghost use Rattle.std.specs.Prelude.{◌≡◌, ℕ, ◌-◌, ◌≤◌, true, false, [], length, drop, if◌then◌else◌, MatchOption};
+ghost use Rattle.std.specs.Prelude.{◌≡◌, ◌-◌, ◌≤◌, true, false, [], length, drop, if◌then◌else◌, MatchOption};
 ghost use Rattle.chip.specs.Gaps.{strikes, worn, none_zero, good_gaps};
 
 // The gaps of a flawed chip, at the end of the table. The one at `next` counts, and those before it are spent.

@@ -1,8 +1,7 @@
-ghost use Rattle.std.specs.Prelude.{◌≡◌, cond, length};
-ghost use Rattle.chip.specs.Meaning.{Meaning};
+ghost use Rattle.std.specs.Prelude.{◌≡◌, length};
 ghost use Rattle.chip.specs.Calls.{shape_of, kind_told, Programmed, fetched, fetched_into, erase_told, erased};
 ghost use Rattle.chip.specs.Fronts.{front_of};
-ghost use Rattle.chip.specs.Pairs.{shapes_fit, joinable, joined, joined_shaped, side_of, block_side, ProgramsOne, ErasesOne};
+ghost use Rattle.chip.specs.Pairs.{shapes_fit, joined, joined_shaped, side_of, block_side, ProgramsOne, ErasesOne};
 
 use crate::chip::Chip;
 use crate::words::{Kind, Refusal, Shape};

@@ -1,5 +1,5 @@
 // One page as bytes. A slot has 16 bytes of header and then room for the page's data.
-ghost use Rattle.std.specs.Prelude.{◌≡◌, ℕ, ◌+◌, ◌-◌, ◌^◌, ◌<◌, ◌≤◌, length, replicate};
+ghost use Rattle.std.specs.Prelude.{◌≡◌, ◌+◌, ◌^◌, ◌<◌, ◌≤◌, length, replicate};
 ghost use Rattle.chip.specs.Calls.{kind_of, fetched_page};
 ghost use Rattle.chip.specs.Slot.{wide, high, low, header, slot_of, two, all_ones, is_written, page_of, fetched_onto};
 

@@ -1,9 +1,8 @@
 // What each deed and each part of a tick make of one seat.
-ghost use Rattle.std.specs.Prelude.{◌≡◌, ◌+◌, ◌*◌, ◌^◌, ◌<◌, ◌≤◌};
+ghost use Rattle.std.specs.Prelude.{◌≡◌, ◌+◌, ◌^◌, ◌<◌, ◌≤◌};
 ghost use Rattle.ledger.specs.Books.{leaves};
 ghost use Rattle.ledger.specs.Seats.{
   nobody,
-  is_empty,
   is_serving,
   in_use,
   seated,

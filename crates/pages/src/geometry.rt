@@ -1,4 +1,4 @@
-ghost use Rattle.std.specs.Prelude.{ℕ, ◌≤◌};
+ghost use Rattle.std.specs.Prelude.{◌≤◌};
 
 // How many blocks a chip in use has, and how many pages each of them.
 #[derive(Clone, Copy)]

@@ -1,4 +1,4 @@
-ghost use Rattle.std.specs.Prelude.{◌≡◌, ℕ, ◌*◌, ◌/◌, not, ◌&&◌};
+ghost use Rattle.std.specs.Prelude.{◌≡◌, ◌*◌, ◌/◌, not, ◌&&◌};
 ghost use Rattle.chip.specs.Meaning.{page_at};
 ghost use Rattle.chip.specs.Calls.{is_free};
 ghost use Rattle.history.specs.Work.{next_page};

@@ -1,4 +1,5 @@
-// The plan one number a call, and 0 where a number is out of its range: what the crate plan_c exports to C.
+// The plan as C asks for it: one number a call, and 0 where a number is out of its range.
+// The crate plan_c exports these three functions.
 ghost use Rattle.std.specs.Prelude.{◌≡◌, if◌then◌else◌};
 ghost use Rattle.plan.specs.Plan.{in_range, plan_of};
 

@@ -1,7 +1,5 @@
-ghost use Rattle.std.specs.Prelude.{◌≡◌, ℕ, ◌+◌, ◌-◌, ◌*◌, ◌<◌, ◌≤◌, true, length, Some, None, Ok, Err};
-ghost use Rattle.chip.specs.declared.words.Refusal.TheVariants.{NotThere};
-ghost use Rattle.chip.specs.Meaning.{Meaning, Shaped};
-ghost use Rattle.chip.specs.Calls.{shape_of, kind_told, Programmed, fetched, fetched_into, erase_told, erased, asks_program};
+ghost use Rattle.std.specs.Prelude.{◌≡◌, length};
+ghost use Rattle.chip.specs.Calls.{shape_of, kind_told, Programmed, fetched, fetched_into, erase_told, erased};
 ghost use Rattle.chip.specs.Slot.{wide, slot_of, failed_slot, programmed_bytes, block_erased, made, Layout};
 ghost use Rattle.chip.specs.Makes.{means_of, plain_means, NeverFails, Placed, Opened, Bounded, Put, Wiped};
 ghost use Rattle.chip.specs.Shaping.{plain_shaped};
