@@ -9,7 +9,7 @@ ghost use Rattle.ledger.specs.Of.{books_of};
 use crate::ledger::Ledger;
 use crate::refusal::Refusal;
 use crate::seat::Seat;
-use plan::{Plan, yield_rule};
+use plan::{Job, Plan, yield_rule};
 
 impl Ledger {
     // Admits a job of `writes` page writes in each period of `period` ticks to an empty seat, and answers its plan.
@@ -43,7 +43,7 @@ impl Ledger {
         ensures answer { result ≡ answer (asks_plan (books_of self.now) (planned self.now.frame.alpha period writes)) (plan_of self.now.frame.alpha period writes) }
         ensures affordable { IfOk result (λ plan. Affordable (books_of self.now) plan) }
     {
-        let Some(plan) = Plan::of(self.frame.alpha, period, writes) else {
+        let Some(plan) = Plan::of(self.frame.alpha, Job { period, writes }) else {
             return Err(Refusal::JobOutOfRange);
         };
         if plan.writes + self.collector_share() > self.pool {

@@ -3,39 +3,25 @@
 ghost use Rattle.std.specs.Prelude.{◌≡◌, if◌then◌else◌};
 ghost use Rattle.plan.specs.Plan.{in_range, plan_of};
 
-use crate::numbers::Plan;
+use crate::numbers::{Job, Plan};
 
 // The meta-period σ in ticks.
 pub fn plan_meta_period(alpha: u32, period: u32, writes: u32) -> u32
     ensures { result ≡ (if in_range alpha period writes then (plan_of alpha period writes).meta_period else 0) }
 {
-    let (meta_period, _, _) = numbers_or_zeros(alpha, period, writes);
-    meta_period
+    Plan::of(alpha, Job { period, writes }).map_or(0, |plan| plan.meta_period)
 }
 
 // How many pages a meta-period may write, W.
 pub fn plan_writes(alpha: u32, period: u32, writes: u32) -> u32
     ensures { result ≡ (if in_range alpha period writes then (plan_of alpha period writes).writes else 0) }
 {
-    let (_, writes, _) = numbers_or_zeros(alpha, period, writes);
-    writes
+    Plan::of(alpha, Job { period, writes }).map_or(0, |plan| plan.writes)
 }
 
 // How many runs the collector makes in a meta-period, k.
 pub fn plan_runs(alpha: u32, period: u32, writes: u32) -> u32
     ensures { result ≡ (if in_range alpha period writes then (plan_of alpha period writes).runs else 0) }
 {
-    let (_, _, runs) = numbers_or_zeros(alpha, period, writes);
-    runs
-}
-
-fn numbers_or_zeros(alpha: u32, period: u32, writes: u32) -> (u32, u32, u32)
-    ensures meta_period { result.0 ≡ (if in_range alpha period writes then (plan_of alpha period writes).meta_period else 0) }
-    ensures writes { result.1 ≡ (if in_range alpha period writes then (plan_of alpha period writes).writes else 0) }
-    ensures runs { result.2 ≡ (if in_range alpha period writes then (plan_of alpha period writes).runs else 0) }
-{
-    match Plan::of(alpha, period, writes) {
-        Some(plan) => plan.numbers(),
-        None => (0, 0, 0),
-    }
+    Plan::of(alpha, Job { period, writes }).map_or(0, |plan| plan.runs)
 }

@@ -2,7 +2,7 @@ ghost use Rattle.std.specs.Prelude.{◌≡◌, true};
 ghost use Rattle.plan.specs.Figures.{Figures, numbers};
 ghost use Rattle.plan.specs.Plan.{planned};
 
-use crate::numbers::Plan;
+use crate::numbers::{Job, Plan};
 use crate::yields::yield_rule;
 
 // The ten worked figures, worked out again: the eight plans, and the yield rule on either side of its edge.
@@ -22,12 +22,10 @@ pub fn figures_hold() -> bool
         && !yield_rule(4, 4, 6, 5, 2)
 }
 
-// Are these the three numbers of the plan?
+// Are these the three numbers of the plan? The job is a yield, a period and its writes.
 fn gives(job: (u32, u32, u32), answer: (u32, u32, u32)) -> bool
     ensures { planned job.0 job.1 job.2 ≡ numbers answer.0 answer.1 answer.2 → result ≡ true }
 {
-    match Plan::of(job.0, job.1, job.2) {
-        Some(plan) => plan.numbers() == answer,
-        None => false,
-    }
+    let (alpha, period, writes) = job;
+    Plan::of(alpha, Job { period, writes }).is_some_and(|plan| plan.numbers() == answer)
 }

@@ -11,5 +11,5 @@ mod yields;
 
 pub use exports::{plan_meta_period, plan_runs, plan_writes};
 pub use figures::figures_hold;
-pub use numbers::Plan;
+pub use numbers::{Job, Plan};
 pub use yields::yield_rule;

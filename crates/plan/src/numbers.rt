@@ -1,3 +1,10 @@
+// A recording job: it writes so many pages in each period of so many ticks.
+#[derive(Clone, Copy, PartialEq, Eq, Debug)]
+pub struct Job {
+    pub period: u32,
+    pub writes: u32,
+}
+
 // The plan of a seat: in each meta-period of so many ticks the seat may write so many pages,
 // and the collector makes so many runs for it.
 #[derive(Clone, Copy, PartialEq, Eq, Debug)]

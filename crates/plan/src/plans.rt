@@ -1,15 +1,15 @@
 ghost use Rattle.std.specs.Prelude.{◌≡◌, Some};
 ghost use Rattle.plan.specs.Plan.{PlanLaw, planned};
 
-use crate::numbers::Plan;
+use crate::numbers::{Job, Plan};
 
 impl Plan {
-    // The plan of a job of `writes` page writes in each period of `period` ticks, where a run wins back
-    // `alpha` pages; none where a number is out of its range.
-    pub fn of(alpha: u32, period: u32, writes: u32) -> Option<Plan>
-        ensures plan { result ≡ planned alpha period writes }
-        ensures law { (plan : Plan) → result ≡ Some plan → PlanLaw alpha period writes plan }
+    // The plan of a job where a run wins back `alpha` pages; none where a number is out of its range.
+    pub fn of(alpha: u32, job: Job) -> Option<Plan>
+        ensures plan { result ≡ planned alpha job.period job.writes }
+        ensures law { (plan : Plan) → result ≡ Some plan → PlanLaw alpha job.period job.writes plan }
     {
+        let Job { period, writes } = job;
         if alpha < 1 || alpha > 32 || period < 1 || period > 60_000 || writes < 1 || writes > 1024 {
             return None;
         }

@@ -1,6 +1,6 @@
 use crate::exports::{plan_meta_period, plan_runs, plan_writes};
 use crate::figures::figures_hold;
-use crate::numbers::Plan;
+use crate::numbers::{Job, Plan};
 use crate::yields::yield_rule;
 
 #[test]
@@ -54,7 +54,7 @@ fn a_number_past_its_range_has_no_plan(rt: HostRuntime) {
         (16, 20, u32::MAX),
     ];
     for (alpha, period, writes) in outside {
-        assert!(rt; Plan::of(alpha, period, writes).is_none());
+        assert!(rt; Plan::of(alpha, Job { period, writes }).is_none());
         assert_eq!(rt; plan_meta_period(alpha, period, writes), 0);
         assert_eq!(rt; plan_writes(alpha, period, writes), 0);
         assert_eq!(rt; plan_runs(alpha, period, writes), 0);

@@ -5,7 +5,7 @@ ghost use Rattle.script.specs.Text.{line_feed, script_of};
 ghost use Rattle.sheet.specs.Law.{Answers};
 ghost use Rattle.sheet.specs.Sheet.{most_bytes, plan_for, plan_line, sheet_of, three_of};
 
-use plan::Plan;
+use plan::{Job, Plan};
 use script::{Line, Script, number, push_number};
 use std::alloc::{AllocError, Global};
 
@@ -39,11 +39,11 @@ fn plan_of(line: Line<'_>) -> Option<Plan>
     ensures { result ≡ plan_for (words_left line.entry) }
 {
     let (alpha, period, writes) = three_words(line)?;
-    Plan::of(
-        number(alpha)?.into(),
-        number(period)?.into(),
-        number(writes)?.into(),
-    )
+    let job = Job {
+        period: number(period)?.into(),
+        writes: number(writes)?.into(),
+    };
+    Plan::of(number(alpha)?.into(), job)
 }
 
 fn three_words(mut line: Line<'_>) -> Option<(&[u8], &[u8], &[u8])>
