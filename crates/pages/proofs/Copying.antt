@@ -7,6 +7,7 @@ use Rattle.chip.specs.declared.words.Refusal.{Refusal}
 use Rattle.chip.specs.declared.words.Refusal.TheVariants.{NotThere, TooLong}
 use Rattle.chip.specs.Meaning.{Page, free, spoiled, written, Meaning, page_at}
 use Rattle.chip.specs.Calls.{fetched_page, fetched, in_front, data_of, fetched_into}
+use Rattle.ledger.specs.declared.refusal.Refusal.{Refusal as StoreRefusal}
 use Rattle.history.specs.Pages.{names, is_live}
 use Rattle.history.proofs.Counts.{live_named}
 use Rattle.pages.specs.declared.tables.Tables.{Tables}
@@ -95,12 +96,12 @@ fetched_front m q room l size buffer told =
     let e : data_of (page_at m q) ≡ told.bytes = ap data_of (there_page m q told.there ∙ told.is) in
     ap (λ d. take (size - 0) (in_front d buffer)) e ∙ take_at told.bytes (drop (length told.bytes) buffer) (size - 0) (omega (arith, told.long))
 
-moved : (m n : Meaning) (t u : Tables) (b q l : ℕ) (d : List ℕ) (r : Option ℕ) → maps_of t l ≡ Some q → page_in m.pages q ≡ written l d
+moved : (m n : Meaning) (t u : Tables) (b q l : ℕ) (d : List ℕ) (r : Result ℕ StoreRefusal) → maps_of t l ≡ Some q → page_in m.pages q ≡ written l d
     → Writes m t (Some b) l d r n u → Copies m t b q r n u
-moved m n t u b q l d None NamedBy is w = w
-moved m n t u b q l d (Some tries) NamedBy is w = inr (l, d, NamedBy, is, w)
+moved m n t u b q l d (Err e) NamedBy is w = w
+moved m n t u b q l d (Ok tries) NamedBy is w = inr (l, d, NamedBy, is, w)
 
-pub moved_on : (m o n : Meaning) (t u : Tables) (b q room l size : ℕ) (before after : List ℕ) (r : Option ℕ) → CanCopy m t b q room → Told m q room l size → o ≡ m
+pub moved_on : (m o n : Meaning) (t u : Tables) (b q room l size : ℕ) (before after : List ℕ) (r : Result ℕ StoreRefusal) → CanCopy m t b q room → Told m q room l size → o ≡ m
     → l < 1920 → names (maps_of t l) q ≡ true → after ≡ fetched_into m q (Ok (l, size)) before
     → (CanWrite o t (Some b) l (length (take (size - 0) after)) → Writes o t (Some b) l (take (size - 0) after) r n u) → Copies m t b q r n u
 moved_on m o n t u b q room l size before after r can told same known is-live-by got write =

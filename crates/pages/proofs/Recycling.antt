@@ -1,5 +1,5 @@
 -- A whole recycle, over plain values.
-use Rattle.std.proofs.Common.{◌≡◌, ℕ, ◌+◌, ◌-◌, ◌*◌, ◌<◌, ◌≤◌, true, List, [], ◌∷◌, length, get_or, take, Some, sum, Option, sym, ap, ◌∙◌, subst, inl, inr, arith, length-take}
+use Rattle.std.proofs.Common.{◌≡◌, ℕ, ◌+◌, ◌-◌, ◌*◌, ◌<◌, ◌≤◌, true, List, [], ◌∷◌, length, get_or, take, sum, sym, ap, ◌∙◌, subst, inl, inr, arith, length-take}
 use Rattle.std.proofs.lemmas.List.{get_or-take}
 use Rattle.std.proofs.lemmas.Bool.{both_ways}
 use Rattle.chip.specs.Meaning.{Meaning, Shaped}
@@ -15,10 +15,9 @@ use Rattle.history.proofs.Counts.{kinds_sum, deads_sum, live_by_map}
 use Rattle.history.proofs.Chip.{block_range, block_fits, frees_wiped}
 use Rattle.history.proofs.Recycle.{Copying}
 use Rattle.history.proofs.Laws.{emptying_copying}
-use Rattle.pages.specs.declared.emptied.Emptied.{Emptied}
 use Rattle.pages.specs.declared.tables.Tables.{Tables}
 use Rattle.pages.specs.Tied.{maps_of, page_in}
-use Rattle.pages.specs.Recycle.{per_block, free_in, dead_count, all_free, CanEmpty, EmptiedTo, Empties, SameBlocks, CanWipe, Wiped, CanRecycle, Recycled}
+use Rattle.pages.specs.Recycle.{per_block, free_in, dead_count, all_free, CanEmpty, EmptiedTo, SameBlocks, CanWipe, Wiped, CanRecycle, Recycled}
 
 pub few_bytes : (m : Meaning) → Shaped m → m.page_size ≤ 512
 few_bytes m (inl empty) = let e = ap (λ x. x.page_size) empty in omega (arith, e)
@@ -140,8 +139,3 @@ module _ (m : Meaning) (t : Tables) (b copies tries : ℕ) (n : Meaning) (u : Ta
       where
         wiped_start : ℕ → ℕ
         wiped_start p = after_wipe p b u.start
-
--- what the calls answer
-
-pub emptied_worth : (m : Meaning) (t : Tables) (b : ℕ) (r : Option Emptied) (n : Meaning) (u : Tables) (d : Emptied) → r ≡ Some d → Empties m t b r n u → EmptiedTo m t b (per_block t) d.copies d.tries n u
-emptied_worth m t b r n u d is done = subst (λ x. Empties m t b x n u) is done

@@ -6,8 +6,9 @@
 -- Moved        a live page was written elsewhere
 -- Copied       a page was not live, and nothing was done; or it was moved by so many tries
 -- Copies       what the call answers: under CanCopy it always ends
-use Rattle.std.specs.Prelude.{◌≡◌, ℕ, ◌+◌, ◌<◌, ◌≤◌, Bool, true, false, ◌⊎◌, List, length, Some, None, Option}
+use Rattle.std.specs.Prelude.{◌≡◌, ℕ, ◌+◌, ◌<◌, ◌≤◌, Bool, true, false, ◌⊎◌, List, length, Some, Ok, Err, Result}
 use Rattle.chip.specs.Meaning.{written, Meaning}
+use Rattle.ledger.specs.declared.refusal.Refusal.{Refusal}
 use Rattle.history.specs.Pages.{is_live, frees}
 use Rattle.pages.specs.declared.tables.Tables.{Tables}
 use Rattle.pages.specs.Tied.{maps_of, page_in, Tied}
@@ -29,6 +30,6 @@ Moved m t b q tries n u =
 abbrev pub Copied : Meaning → Tables → ℕ → ℕ → ℕ → Meaning → Tables → Type 0
 Copied m t b q tries n u = ((tries ≡ 0) × (live_in m t q ≡ false) × (n ≡ m) × (u ≡ t)) ⊎ Moved m t b q tries n u
 
-abbrev pub Copies : Meaning → Tables → ℕ → ℕ → Option ℕ → Meaning → Tables → Type 0
-Copies m t b q None n u = ⊥
-Copies m t b q (Some tries) n u = Copied m t b q tries n u
+abbrev pub Copies : Meaning → Tables → ℕ → ℕ → Result ℕ Refusal → Meaning → Tables → Type 0
+Copies m t b q (Err e) n u = ⊥
+Copies m t b q (Ok tries) n u = Copied m t b q tries n u

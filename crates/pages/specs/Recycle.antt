@@ -8,9 +8,10 @@
 -- wiped_tables  the tables after a block without live pages was erased; Wipes what the erase answers
 -- CanRecycle    there is a block with α dead pages, and room for the copies of any such block
 -- Recycled      a block with at least α dead pages was emptied and erased; Recycles what the recycle answers
-use Rattle.std.specs.Prelude.{◌≡◌, ℕ, ◌+◌, ◌-◌, ◌*◌, ◌<◌, ◌≤◌, cond, ◌∷◌, length, Some, None, Option, nat_lt, slice_index, slice_set}
+use Rattle.std.specs.Prelude.{◌≡◌, ℕ, ◌+◌, ◌-◌, ◌*◌, ◌<◌, ◌≤◌, cond, ◌∷◌, length, Ok, Err, Result, nat_lt, slice_index, slice_set}
 use Rattle.chip.specs.Meaning.{Meaning}
 use Rattle.chip.specs.Calls.{wiped, with_block_free}
+use Rattle.ledger.specs.declared.refusal.Refusal.{Refusal}
 use Rattle.history.specs.Pages.{frees, lives, deads}
 use Rattle.history.specs.History.{History, asked, count}
 use Rattle.history.specs.Promise.{is_try}
@@ -52,9 +53,9 @@ pub record EmptiedTo (m : Meaning) (t : Tables) (b i copies tries : ℕ) (n : Me
       (h : History)
       → ((h' : History) × Emptying (per_block t) b h (maps_of t) m.pages t.start i copies h' (maps_of u) n.pages u.start × (count is_try h' ≡ count is_try h + tries))
 
-abbrev pub Empties : Meaning → Tables → ℕ → Option Emptied → Meaning → Tables → Type 0
-Empties m t b None n u = ⊥
-Empties m t b (Some e) n u = EmptiedTo m t b (per_block t) e.copies e.tries n u
+abbrev pub Empties : Meaning → Tables → ℕ → Result Emptied Refusal → Meaning → Tables → Type 0
+Empties m t b (Err e) n u = ⊥
+Empties m t b (Ok e) n u = EmptiedTo m t b (per_block t) e.copies e.tries n u
 
 -- one page more was looked at, and copied if any program was called for it
 abbrev pub added : Emptied → ℕ → Emptied
@@ -82,9 +83,9 @@ pub record Wiped (m : Meaning) (t : Tables) (b : ℕ) (n : Meaning) (u : Tables)
   pub tables : u ≡ wiped_tables t b
   pub tied : Tied n.page_size n.pages u
 
-abbrev pub Wipes : Meaning → Tables → ℕ → Option (Unit {0}) → Meaning → Tables → Type 0
-Wipes m t b None n u = ⊥
-Wipes m t b (Some x) n u = Wiped m t b n u
+abbrev pub Wipes : Meaning → Tables → ℕ → Result (Unit {0}) Refusal → Meaning → Tables → Type 0
+Wipes m t b (Err e) n u = ⊥
+Wipes m t b (Ok x) n u = Wiped m t b n u
 
 -- ---- the whole
 
@@ -118,6 +119,6 @@ pub record Recycled (m : Meaning) (t : Tables) (α copies tries : ℕ) (n : Mean
       → ((h' : History) × Emptying (per_block t) block (asked block ∷ h) (maps_of t) m.pages t.start (per_block t) copies h' (maps_of passed) left.pages passed.start
       × (count is_try h' ≡ count is_try h + tries))
 
-abbrev pub Recycles : Meaning → Tables → ℕ → Option Emptied → Meaning → Tables → Type 0
-Recycles m t α None n u = ⊥
-Recycles m t α (Some e) n u = Recycled m t α e.copies e.tries n u
+abbrev pub Recycles : Meaning → Tables → ℕ → Result Emptied Refusal → Meaning → Tables → Type 0
+Recycles m t α (Err e) n u = ⊥
+Recycles m t α (Ok e) n u = Recycled m t α e.copies e.tries n u

@@ -6,8 +6,9 @@
 -- SameSize     two meanings of one chip: blocks, pages and bytes never change
 -- Wrote        a write of so many tries
 -- Writes       what a write answers: under CanWrite it always ends in a good program
-use Rattle.std.specs.Prelude.{◌≡◌, ℕ, ◌+◌, ◌*◌, ◌<◌, ◌≤◌, List, length, Some, None, Option}
+use Rattle.std.specs.Prelude.{◌≡◌, ℕ, ◌+◌, ◌*◌, ◌<◌, ◌≤◌, List, length, Some, None, Option, Ok, Err, Result}
 use Rattle.chip.specs.Meaning.{Page, Meaning}
+use Rattle.ledger.specs.declared.refusal.Refusal.{Refusal}
 use Rattle.history.specs.Pages.{frees}
 use Rattle.history.specs.History.{History}
 use Rattle.history.specs.Work.{Written}
@@ -43,6 +44,6 @@ pub record Wrote (m : Meaning) (t : Tables) (skip : Option ℕ) (l : ℕ) (d : L
   pub answers :
       (h : History) → ((h' : History) × Written (over t.geometry.pages_per_block skip) l d tries h (maps_of t) m.pages t.start h' (maps_of u) n.pages u.start)
 
-abbrev pub Writes : Meaning → Tables → Option ℕ → ℕ → List ℕ → Option ℕ → Meaning → Tables → Type 0
-Writes m t skip l d None n u = ⊥
-Writes m t skip l d (Some tries) n u = Wrote m t skip l d tries n u
+abbrev pub Writes : Meaning → Tables → Option ℕ → ℕ → List ℕ → Result ℕ Refusal → Meaning → Tables → Type 0
+Writes m t skip l d (Err e) n u = ⊥
+Writes m t skip l d (Ok tries) n u = Wrote m t skip l d tries n u

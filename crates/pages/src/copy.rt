@@ -5,20 +5,14 @@ ghost use Rattle.pages.specs.Copy.{CanCopy, Copies};
 
 use crate::tables::Tables;
 use chip::Chip;
+use ledger::Refusal;
 
 impl Tables {
     // Does the map name this page for a label?
     fn names(&self, label: u16, page: u16) -> bool
         ensures { result ≡ (nat_lt label 1920 && names (maps_of self.now label) page) }
     {
-        let index = label as usize;
-        if index >= 1920 {
-            return false;
-        }
-        match self.map[index] {
-            Some(named) => named == page,
-            None => false,
-        }
+        self.map.get(label as usize) == Some(&Some(page))
     }
 
     // Copies a page out of its block if it is live, and says how many programs that took: none if it is not.
@@ -28,15 +22,14 @@ impl Tables {
         buffer: &mut [u8],
         block: u16,
         page: u16,
-    ) -> Option<u32>
+    ) -> Result<u32, Refusal>
         ensures { CanCopy (C.Chip.means chip.old) self.old block page (length buffer.old) → Copies (C.Chip.means chip.old) self.old block page result (C.Chip.means chip.new) self.new }
     {
-        let (label, length) = match chip.fetch(page, buffer) {
-            Ok(told) => told,
-            Err(_) => return Some(0),
+        let Ok((label, length)) = chip.fetch(page, buffer) else {
+            return Ok(0);
         };
         if !self.names(label, page) {
-            return Some(0);
+            return Ok(0);
         }
         self.write(chip, label, &buffer[0..length], Some(block))
     }

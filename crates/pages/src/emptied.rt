@@ -1,5 +1,5 @@
 // What emptying a block took: the live pages that were copied, and the programs for them.
-#[derive(Clone, Copy)]
+#[derive(Clone, Copy, PartialEq, Eq, Debug, Default)]
 pub struct Emptied {
     pub copies: u32,
     pub tries: u32,

@@ -6,6 +6,7 @@ use crate::emptied::Emptied;
 use crate::tables::Tables;
 use chip::Chip;
 use chooser::{Chooser, Question};
+use ledger::Refusal;
 
 impl Emptied {
     // One page more was looked at, and copied if any program was called for it.
@@ -22,26 +23,25 @@ impl Emptied {
 
 impl Tables {
     // Copies every live page of a block out of it, in ascending order.
-    pub fn empty<C: Chip>(&mut self, chip: &mut C, buffer: &mut [u8], block: u16) -> Option<Emptied>
+    pub fn empty<C: Chip>(
+        &mut self,
+        chip: &mut C,
+        buffer: &mut [u8],
+        block: u16,
+    ) -> Result<Emptied, Refusal>
         ensures { CanEmpty (C.Chip.means chip.old) self.old block (length buffer.old) → Empties (C.Chip.means chip.old) self.old block result (C.Chip.means chip.new) self.new }
     {
         if block >= self.geometry.blocks {
-            return None;
+            return Err(Refusal::TablesDisagree);
         }
         let pages_per_block = self.geometry.pages_per_block;
         let first = block * pages_per_block;
-        let mut done = Emptied {
-            copies: 0,
-            tries: 0,
-        };
+        let mut done = Emptied::default();
         for i in 0..pages_per_block {
-            let made = match self.copy_one(chip, buffer, block, first + i) {
-                Some(made) => made,
-                None => return None,
-            };
+            let made = self.copy_one(chip, buffer, block, first + i)?;
             done = done.with(made);
         }
-        Some(done)
+        Ok(done)
     }
 
     // Where the search starts when a block has been erased: at the block's first page, if it lay in the block.
@@ -57,25 +57,26 @@ impl Tables {
     }
 
     // Erases a block that holds no live page.
-    pub fn wipe<C: Chip>(&mut self, chip: &mut C, block: u16) -> Option<()>
+    pub fn wipe<C: Chip>(&mut self, chip: &mut C, block: u16) -> Result<(), Refusal>
         ensures { CanWipe (C.Chip.means chip.old) self.old block → Wipes (C.Chip.means chip.old) self.old block result (C.Chip.means chip.new) self.new }
     {
         let index = block as usize;
-        if index >= 64 {
-            return None;
+        if index >= self.dead.len() {
+            return Err(Refusal::TablesDisagree);
         }
-        match chip.erase(block) {
-            Ok(_) => {}
-            Err(_) => return None,
-        }
+        chip.erase(block).map_err(|_| Refusal::TablesDisagree)?;
         self.free = self.free.saturating_add(u16::from(self.dead[index]));
         self.dead[index] = 0;
         self.start = self.restart(block);
-        Some(())
+        Ok(())
     }
 
     // Empties and erases the block that the chooser names.
-    pub fn recycle<C: Chip, H: Chooser>(&mut self, chip: &mut C, chooser: &mut H) -> Option<Emptied>
+    pub fn recycle<C: Chip, H: Chooser>(
+        &mut self,
+        chip: &mut C,
+        chooser: &mut H,
+    ) -> Result<Emptied, Refusal>
         ensures { (α : ℕ) → CanRecycle (C.Chip.means chip.old) self.old α → Recycles (C.Chip.means chip.old) self.old α result (C.Chip.means chip.new) self.new }
     {
         let mut buffer = [0u8; 512];
@@ -83,13 +84,8 @@ impl Tables {
         let block = chooser.choose(Question {
             dead: &self.dead[0..blocks],
         });
-        let done = match self.empty(chip, &mut buffer, block) {
-            Some(done) => done,
-            None => return None,
-        };
-        match self.wipe(chip, block) {
-            Some(_) => Some(done),
-            None => None,
-        }
+        let done = self.empty(chip, &mut buffer, block)?;
+        self.wipe(chip, block)?;
+        Ok(done)
     }
 }

@@ -40,22 +40,14 @@ fn is_free<C: Chip>(chip: &mut C, page: u16) -> bool
     ensures value { result ≡ is_free (page_at (C.Chip.means chip.old) page) }
     ensures same { C.Chip.means chip.new ≡ C.Chip.means chip.old }
 {
-    match chip.kind(page) {
-        Ok(Kind::Free) => true,
-        Ok(Kind::Spoiled) => false,
-        Ok(Kind::Written) => false,
-        Err(_) => false,
-    }
+    matches!(chip.kind(page), Ok(Kind::Free))
 }
 
 impl Tables {
     fn passed_over(&self, page: u16, skip: Option<u16>) -> bool
         ensures { result ≡ over self.now.geometry.pages_per_block skip page }
     {
-        match skip {
-            Some(block) => self.geometry.block_of(page) == block,
-            None => false,
-        }
+        skip == Some(self.geometry.block_of(page))
     }
 
     // Whether a page is free and not passed over.
@@ -63,11 +55,7 @@ impl Tables {
         ensures value { result ≡ (not (over self.now.geometry.pages_per_block skip page) && is_free (page_at (C.Chip.means chip.old) page)) }
         ensures same { C.Chip.means chip.new ≡ C.Chip.means chip.old }
     {
-        if self.passed_over(page, skip) {
-            false
-        } else {
-            is_free(chip, page)
-        }
+        !self.passed_over(page, skip) && is_free(chip, page)
     }
 
     // The first free page going up and round from where the search starts; the pages of one block may be

@@ -4,6 +4,7 @@ ghost use Rattle.pages.specs.Write.{CanWrite, Writes};
 
 use crate::tables::Tables;
 use chip::Chip;
+use ledger::Refusal;
 
 impl Tables {
     // One page more of a block is dead.
@@ -11,7 +12,7 @@ impl Tables {
         ensures { Countable self.old page → self.new ≡ with_dead self.old (buried self.old page) }
     {
         let block = self.geometry.block_of(page) as usize;
-        if block < 64 {
+        if block < self.dead.len() {
             self.dead[block] = self.dead[block].saturating_add(1);
         }
     }
@@ -29,11 +30,7 @@ impl Tables {
     fn supersede(&mut self, label: u16)
         ensures { Replaceable self.old label → self.new ≡ with_dead self.old (superseded self.old (maps_of self.old label)) }
     {
-        let index = label as usize;
-        if index >= 1920 {
-            return;
-        }
-        if let Some(old) = self.map[index] {
+        if let Some(&Some(old)) = self.map.get(label as usize) {
             self.bury(old);
         }
     }
@@ -44,7 +41,7 @@ impl Tables {
     {
         self.supersede(label);
         let index = label as usize;
-        if index >= 1920 {
+        if index >= self.map.len() {
             return;
         }
         self.map[index] = Some(page);
@@ -59,23 +56,21 @@ impl Tables {
         label: u16,
         bytes: &[u8],
         skip: Option<u16>,
-    ) -> Option<u32>
+    ) -> Result<u32, Refusal>
         ensures { CanWrite (C.Chip.means chip.old) self.old skip label (length bytes.now) → Writes (C.Chip.means chip.old) self.old skip label bytes.now result (C.Chip.means chip.new) self.new }
     {
         let mut tries = 0;
         loop {
-            let page = match self.place(chip, skip) {
-                Some(page) => page,
-                None => return None,
+            let Some(page) = self.place(chip, skip) else {
+                return Err(Refusal::TablesDisagree);
             };
             tries += 1;
-            let good = match chip.program(page, label, bytes) {
-                Ok(good) => good,
-                Err(_) => return None,
+            let Ok(good) = chip.program(page, label, bytes) else {
+                return Err(Refusal::TablesDisagree);
             };
             if good {
                 self.settle(label, page);
-                return Some(tries);
+                return Ok(tries);
             }
             self.spoil(page);
         }

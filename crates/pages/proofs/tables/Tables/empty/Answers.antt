@@ -7,15 +7,15 @@ use Rattle.pages.proofs.Emptying.{emptied_none, copies_few, can_copy, counted, f
 use Rattle.pages.proofs.tables.Tables.empty.Goals as goal
 
 pub loop-i-init : goal.loop-i-init
-loop-i-init g c = λ can. emptied_none (g.C.Chip.means c.args.chip.now) c.args.self.now c.args.block can.tied
+loop-i-init g c = λ can. rw (c.default-done.ensures.0, c.default-done.ensures.1) (emptied_none (g.C.Chip.means c.args.chip.now) c.args.self.now c.args.block can.tied)
 
-pub returns-in-None : goal.returns-in-None
-returns-in-None g c = λ can.
+pub returns-in_err-made : goal.returns-in_err-made
+returns-in_err-made g c = λ can.
     let m = g.C.Chip.means c.args.chip.now in
     let n = g.C.Chip.means c.loop-i.chip in
     let e = c.loop-i.invariant can in
     let ready = can_copy m c.args.self.now c.args.block c.loop-i.i c.loop-i.done.copies c.loop-i.done.tries n c.loop-i.self e (omega arith) (length c.args.buffer.now) can in
-    c.in-None.ensures (subst (λ x. CanCopy n c.loop-i.self c.args.block (c.args.block * c.args.self.now.geometry.pages_per_block + c.loop-i.i) x) (sym c.loop-i.auto.buffer) ready)
+    absurd (c.in_err-made.ensures (subst (λ x. CanCopy n c.loop-i.self c.args.block (c.args.block * c.args.self.now.geometry.pages_per_block + c.loop-i.i) x) (sym c.loop-i.auto.buffer) ready))
 
 pub loop-i-preserved : goal.loop-i-preserved
 loop-i-preserved g c = λ can.
@@ -25,11 +25,11 @@ loop-i-preserved g c = λ can.
     let n = g.C.Chip.means c.loop-i.chip in
     let o = g.C.Chip.means c.copy_one.new.chip in
     let d = c.loop-i.done in
-    let made = c.in-Some.made in
+    let made = c.in_ok-made.made in
     let e = c.loop-i.invariant can in
     let within : c.loop-i.i < t.geometry.pages_per_block = omega arith in
     let ready = can_copy m t b c.loop-i.i d.copies d.tries n c.loop-i.self e within (length c.args.buffer.now) can in
-    let done = c.in-Some.ensures (subst (λ x. CanCopy n c.loop-i.self b (b * t.geometry.pages_per_block + c.loop-i.i) x) (sym c.loop-i.auto.buffer) ready) in
+    let done = c.in_ok-made.ensures (subst (λ x. CanCopy n c.loop-i.self b (b * t.geometry.pages_per_block + c.loop-i.i) x) (sym c.loop-i.auto.buffer) ready) in
     let new = counted m t b c.loop-i.i d n c.loop-i.self made o c.copy_one.new.self e within done in
     let few = copies_few m t b c.loop-i.i d.copies d.tries n c.loop-i.self e within in
     let small : d.copies ≤ 31 = omega (arith, few, within, t.geometry.sized.3) in

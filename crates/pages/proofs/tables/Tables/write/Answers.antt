@@ -8,18 +8,18 @@ use Rattle.pages.proofs.tables.Tables.write.Goals as goal
 pub loop-page-init : goal.loop-page-init
 loop-page-init g c = (omega arith, trying_none (g.C.Chip.means c.args.chip.now) c.args.self.now c.args.skip c.args.label c.args.bytes.now)
 
-pub returns-in-None : goal.returns-in-None
-returns-in-None g c = λ can.
+pub returns-in_default : goal.returns-in_default
+returns-in_default g c = λ can.
     let n = g.C.Chip.means c.loop-page.chip in
     let y = c.loop-page.invariant.1 can in
-    absurd (trying_stuck n c.loop-page.self c.args.skip c.args.label (length c.args.bytes.now) y.can (c.in-None.ensures.found y.can.tied.sized))
+    absurd (trying_stuck n c.loop-page.self c.args.skip c.args.label (length c.args.bytes.now) y.can (c.in_default.ensures.found y.can.tied.sized))
 
-pub returns-in-Err : goal.returns-in-Err
-returns-in-Err g c = λ can.
+pub returns-in_default-program : goal.returns-in_default-program
+returns-in_default-program g c = λ can.
     let n = g.C.Chip.means c.loop-page.chip in
     let y = c.loop-page.invariant.1 can in
     let place = c.in-Some.ensures in
-    let asked = c.in-Err.ensures.effect.0 in
+    let asked = c.in_default-program.ensures.effect.0 in
     absurd (trying_refused n c.loop-page.self c.args.skip c.args.label (length c.args.bytes.now) c.in-Some.page _ y.can (place.found y.can.tied.sized)
     (ap (λ (x : Meaning). asks_program x c.in-Some.page (length c.args.bytes.now)) (sym place.same) ∙ asked))
 
