@@ -64,18 +64,15 @@ impl Tables {
         ensures found { Sized (C.Chip.means chip.old).pages self.now → Found (over self.now.geometry.pages_per_block skip) (C.Chip.means chip.old).pages self.now.start result }
         ensures same { C.Chip.means chip.new ≡ C.Chip.means chip.old }
     {
-        let total = self.geometry.pages();
         let mut page = self.start;
-        let mut looked = 0;
-        loop {
-            if looked == total {
-                break None;
+        'search: {
+            for _ in 0..self.geometry.pages() {
+                if self.may_take(chip, page, skip) {
+                    break 'search Some(page);
+                }
+                page = self.geometry.after(page);
             }
-            if self.may_take(chip, page, skip) {
-                break Some(page);
-            }
-            page = self.geometry.after(page);
-            looked += 1;
+            None
         }
     }
 }
