@@ -13,7 +13,7 @@ use Rattle.ledger.proofs.Kept.{admit_keeps, notice_keeps, take_keeps, return_kee
 use Rattle.ledger.specs.Of.{books_of}
 use Rattle.pages.specs.declared.tables.Tables.{Tables}
 use Rattle.pages.specs.Recycle.{all_free}
-use Rattle.store.specs.declared.store.Store.{Store}
+use Rattle.store.specs.State.{Standing}
 use Rattle.store.specs.State.{SoundAt, OpenSound, Sound}
 use Rattle.store.specs.declared.store.Permit.{Permit}
 use Rattle.store.specs.Effects.{if_open, SameButBooks, Booked, Admits, Notices, Takes, Returns}
@@ -40,22 +40,22 @@ abbrev pub permitted : Result (Unit {0}) Refusal → ℕ → Result Permit Refus
 permitted (Ok x) i = Ok (record { seat = i })
 permitted (Err e) i = Err e
 
-module _ {C H : Type 0} (means : C → Meaning) (s : Store C H) where
-  pub sound_open : s.is_open ≡ true → Sound means s → OpenSound means s
-  sound_open is sound = subst (λ x. MatchBool x (OpenSound means s) (Unit {0})) is sound
+module _ {H : Type 0} (s : Standing H) where
+  pub sound_open : s.is_open ≡ true → Sound s → OpenSound s
+  sound_open is sound = subst (λ x. MatchBool x (OpenSound s) (Unit {0})) is sound
 
-  pub open_sound : s.is_open ≡ true → OpenSound means s → Sound means s
-  open_sound is sound = subst (λ x. MatchBool x (OpenSound means s) (Unit {0})) (sym is) sound
+  pub open_sound : s.is_open ≡ true → OpenSound s → Sound s
+  open_sound is sound = subst (λ x. MatchBool x (OpenSound s) (Unit {0})) (sym is) sound
 
-module _ {C H : Type 0} (means : C → Meaning) {s t : Store C H} where
-  pub sound_on : s.is_open ≡ true → SameButBooks means s t → (books_of t.ledger).frame ≡ (books_of s.ledger).frame → (books_of t.ledger).spare ≡ (books_of s.ledger).spare
-      → Keeps (books_of s.ledger) (books_of t.ledger) → Sound means s → Sound means t
+module _ {H : Type 0} {s t : Standing H} where
+  pub sound_on : s.is_open ≡ true → SameButBooks s t → (books_of t.ledger).frame ≡ (books_of s.ledger).frame → (books_of t.ledger).spare ≡ (books_of s.ledger).spare
+      → Keeps (books_of s.ledger) (books_of t.ledger) → Sound s → Sound t
   sound_on is rest frame spare keeps sound =
-      let o = sound_open means s is sound in
-      open_sound means t (rest.is_open ∙ is) (record { at = sound_at rest.chip rest.tables frame spare keeps.same_tokens o.at; settled = keeps.settled o.settled })
+      let o = sound_open s is sound in
+      open_sound t (rest.is_open ∙ is) (record { at = sound_at rest.chip rest.tables frame spare keeps.same_tokens o.at; settled = keeps.settled o.settled })
 
-  pub booked : (q : Option Refusal) (after : Books) → s.is_open ≡ true → SameButBooks means s t → books_of t.ledger ≡ unless q after (books_of s.ledger)
-      → after.frame ≡ (books_of s.ledger).frame → after.spare ≡ (books_of s.ledger).spare → Keeps (books_of s.ledger) (books_of t.ledger) → Booked means s q after t
+  pub booked : (q : Option Refusal) (after : Books) → s.is_open ≡ true → SameButBooks s t → books_of t.ledger ≡ unless q after (books_of s.ledger)
+      → after.frame ≡ (books_of s.ledger).frame → after.spare ≡ (books_of s.ledger).spare → Keeps (books_of s.ledger) (books_of t.ledger) → Booked s q after t
   booked q after is rest made frame spare keeps =
       record {
         rest = rest;
@@ -74,39 +74,39 @@ module _ {C H : Type 0} (means : C → Meaning) {s t : Store C H} where
 pub told_open : {X : Type 0} (is_open : Bool) (q : Option Refusal) (x : X) (r : Result X Refusal) → is_open ≡ true → r ≡ answer q x → r ≡ answer (if_open is_open q) x
 told_open is_open q x r is told = told ∙ ap (λ o. answer (if_open o q) x) (sym is)
 
-module _ {C H : Type 0} (means : C → Meaning) (s : Store C H) where
+module _ {H : Type 0} (s : Standing H) where
   -- the same store with another ledger
-  abbrev pub with_ledger : Ledger → Store C H
+  abbrev pub with_ledger : Ledger → Standing H
   with_ledger l = record { chip = s.chip; chooser = s.chooser; is_open = s.is_open; ledger = l; tables = s.tables }
 
-  pub beside : (l : Ledger) → SameButBooks means s (with_ledger l)
+  pub beside : (l : Ledger) → SameButBooks s (with_ledger l)
   beside l = record { chip = refl; chooser = refl; is_open = refl; tables = refl }
 
   module _ (is : s.is_open ≡ true) (l : Ledger) (i : ℕ) where
     pub admits_on : (p w : ℕ) (r : Result Plan Refusal) → r ≡ answer (asks_admit (books_of s.ledger) i p w) (plan_of s.ledger.frame.alpha p w)
         → books_of l ≡ unless (asks_admit (books_of s.ledger) i p w) (admitted (books_of s.ledger) i (plan_of s.ledger.frame.alpha p w)) (books_of s.ledger)
-        → Admits means s i p w r (with_ledger l)
+        → Admits s i p w r (with_ledger l)
     admits_on p w r told made =
         let b = books_of s.ledger in
         let plan = plan_of s.ledger.frame.alpha p w in (
           told_open s.is_open (asks_admit b i p w) plan r is told,
-          booked means (asks_admit b i p w) (admitted b i plan) is (beside l) made refl refl (admit_keeps (fair_of s.ledger) i p w made),
+          booked (asks_admit b i p w) (admitted b i plan) is (beside l) made refl refl (admit_keeps (fair_of s.ledger) i p w made),
         )
 
     pub notices_on : (r : Result (Unit {0}) Refusal) → r ≡ answer (asks_notice (books_of s.ledger) i) tt → books_of l ≡ unless (asks_notice (books_of s.ledger) i) (noticed (books_of s.ledger) i) (books_of s.ledger)
-        → Notices means s i r (with_ledger l)
+        → Notices s i r (with_ledger l)
     notices_on r told made =
         let b = books_of s.ledger in (
           told_open s.is_open (asks_notice b i) tt r is told,
-          booked means (asks_notice b i) (noticed b i) is (beside l) made refl refl (notice_keeps (fair_of s.ledger) i made),
+          booked (asks_notice b i) (noticed b i) is (beside l) made refl refl (notice_keeps (fair_of s.ledger) i made),
         )
 
     pub returns_on : (r : Result (Unit {0}) Refusal) → r ≡ answer (asks_return (books_of s.ledger) i) tt → books_of l ≡ unless (asks_return (books_of s.ledger) i) (returned (books_of s.ledger) i) (books_of s.ledger)
-        → Returns means s i r (with_ledger l)
+        → Returns s i r (with_ledger l)
     returns_on r told made =
         let b = books_of s.ledger in (
           told_open s.is_open (asks_return b i) tt r is told,
-          booked means (asks_return b i) (returned b i) is (beside l) made refl refl (return_keeps (fair_of s.ledger) i made),
+          booked (asks_return b i) (returned b i) is (beside l) made refl refl (return_keeps (fair_of s.ledger) i made),
         )
 
     -- the permit for the ledger's bare yes
@@ -117,9 +117,9 @@ module _ {C H : Type 0} (means : C → Meaning) (s : Store C H) where
     with_permit (Some e) (Err d) told = cc
 
     pub takes_on : (r : Result (Unit {0}) Refusal) → r ≡ answer (asks_take (books_of s.ledger) i) tt → books_of l ≡ unless (asks_take (books_of s.ledger) i) (taken (books_of s.ledger) i) (books_of s.ledger)
-        → Takes means s i (permitted r i) (with_ledger l)
+        → Takes s i (permitted r i) (with_ledger l)
     takes_on r told made =
         let b = books_of s.ledger in (
           told_open s.is_open (asks_take b i) (record { seat = i }) (permitted r i) is (with_permit (asks_take b i) r told),
-          booked means (asks_take b i) (taken b i) is (beside l) made refl refl (take_keeps (fair_of s.ledger) i made),
+          booked (asks_take b i) (taken b i) is (beside l) made refl refl (take_keeps (fair_of s.ledger) i made),
         )

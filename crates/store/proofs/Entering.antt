@@ -7,7 +7,7 @@ use Rattle.ledger.specs.declared.refusal.Refusal.{Refusal}
 use Rattle.ledger.specs.Books.{Books}
 use Rattle.history.specs.History.{Entry, programmed, asked, erased, History}
 use Rattle.history.specs.Work.{Tried, none, again, Written, Emptying, begun, passed, copied, erased_first}
-use Rattle.store.specs.declared.store.Store.{Store}
+use Rattle.store.specs.State.{Standing}
 use Rattle.store.specs.declared.store.Permit.{Permit}
 use Rattle.store.specs.declared.ticked.Ticked.{Ticked}
 use Rattle.store.specs.State.{Sound}
@@ -58,41 +58,41 @@ walk_grows (ends w q) = walk_grows w
 
 -- ---- the calls
 
-module _ {C H : Type 0} (means : C → Meaning) (s t : Store C H) where
-  entered : {h past : History} (e : Entry) → Grows h past → Run means (e ∷ past) t → Entered means e h t
-  entered {past = past} e grows run = record { past = past; grows = grows; run = run; promise = run_promised means run }
+module _ {H : Type 0} (s t : Standing H) where
+  entered : {h past : History} (e : Entry) → Grows h past → Run (e ∷ past) t → Entered e h t
+  entered {past = past} e grows run = record { past = past; grows = grows; run = run; promise = run_promised run }
 
-  pub entered_open : (numbers alpha pool : ℕ) (r : Result (Unit {0}) Refusal) → (Sound means s → Opens means s numbers alpha pool r t)
-      → (h : History) → Run means h s → Entered means (entry_open numbers alpha pool r) h t
+  pub entered_open : (numbers alpha pool : ℕ) (r : Result (Unit {0}) Refusal) → (Sound s → Opens s numbers alpha pool r t)
+      → (h : History) → Run h s → Entered (entry_open numbers alpha pool r) h t
   entered_open numbers alpha pool r does h run =
-      entered (entry_open numbers alpha pool r) (erases_grows (means s.chip).blocks r h) (then_open numbers alpha pool r run (does (run_sound means run)))
+      entered (entry_open numbers alpha pool r) (erases_grows s.chip.blocks r h) (then_open numbers alpha pool r run (does (run_sound run)))
 
-  pub entered_admit : (i p w : ℕ) (r : Result Plan Refusal) → (Sound means s → Admits means s i p w r t) → (h : History) → Run means h s → Entered means (entry_admit i p w r) h t
-  entered_admit i p w r does h run = entered (entry_admit i p w r) still (then_admit i p w r run (does (run_sound means run)))
+  pub entered_admit : (i p w : ℕ) (r : Result Plan Refusal) → (Sound s → Admits s i p w r t) → (h : History) → Run h s → Entered (entry_admit i p w r) h t
+  entered_admit i p w r does h run = entered (entry_admit i p w r) still (then_admit i p w r run (does (run_sound run)))
 
-  pub entered_notice : (i : ℕ) (r : Result (Unit {0}) Refusal) → (Sound means s → Notices means s i r t) → (h : History) → Run means h s → Entered means (entry_notice i r) h t
-  entered_notice i r does h run = entered (entry_notice i r) still (then_notice i r run (does (run_sound means run)))
+  pub entered_notice : (i : ℕ) (r : Result (Unit {0}) Refusal) → (Sound s → Notices s i r t) → (h : History) → Run h s → Entered (entry_notice i r) h t
+  entered_notice i r does h run = entered (entry_notice i r) still (then_notice i r run (does (run_sound run)))
 
-  pub entered_take : (i : ℕ) (r : Result Permit Refusal) → (Sound means s → Takes means s i r t) → (h : History) → Run means h s → Entered means (entry_take i r) h t
-  entered_take i r does h run = entered (entry_take i r) still (then_take i r run (does (run_sound means run)))
+  pub entered_take : (i : ℕ) (r : Result Permit Refusal) → (Sound s → Takes s i r t) → (h : History) → Run h s → Entered (entry_take i r) h t
+  entered_take i r does h run = entered (entry_take i r) still (then_take i r run (does (run_sound run)))
 
-  pub entered_return : (i : ℕ) (r : Result (Unit {0}) Refusal) → (Sound means s → Returns means s i r t) → (h : History) → Run means h s → Entered means (entry_return i r) h t
-  entered_return i r does h run = entered (entry_return i r) still (then_return i r run (does (run_sound means run)))
+  pub entered_return : (i : ℕ) (r : Result (Unit {0}) Refusal) → (Sound s → Returns s i r t) → (h : History) → Run h s → Entered (entry_return i r) h t
+  entered_return i r does h run = entered (entry_return i r) still (then_return i r run (does (run_sound run)))
 
-  pub entered_save : (i n : ℕ) (d : List ℕ) (r : Result ℕ Refusal) → (Sound means s → Saves means s i n d r t) → (h : History) → Run means h s → Entered means (entry_save i n d r) h t
+  pub entered_save : (i n : ℕ) (d : List ℕ) (r : Result ℕ Refusal) → (Sound s → Saves s i n d r t) → (h : History) → Run h s → Entered (entry_save i n d r) h t
   entered_save i n d (Ok tries) does h run =
-      let e = does (run_sound means run) in
+      let e = does (run_sound run) in
       let work = e.1 h in
       entered (entry_save i n d (Ok tries)) (written_grows work.1.wrote) (then_store i n d tries run e.0 work.1)
-  entered_save i n d (Err x) does h run = entered (entry_save i n d (Err x)) still (then_no_store i n d x run (does (run_sound means run)))
+  entered_save i n d (Err x) does h run = entered (entry_save i n d (Err x)) still (then_no_store i n d x run (does (run_sound run)))
 
-  pub entered_read : (n : ℕ) (before after : List ℕ) (r : Result ℕ Refusal) → (Sound means s → Reads means s n before r t after)
-      → (h : History) → Run means h s → Entered means (entry_read n (length before) (bytes_read r after) r) h t
+  pub entered_read : (n : ℕ) (before after : List ℕ) (r : Result ℕ Refusal) → (Sound s → Reads s n before r t after)
+      → (h : History) → Run h s → Entered (entry_read n (length before) (bytes_read r after) r) h t
   entered_read n before after r does h run =
-      entered (entry_read n (length before) (bytes_read r after) r) still (then_read n before after r run (does (run_sound means run)))
+      entered (entry_read n (length before) (bytes_read r after) r) still (then_read n before after r run (does (run_sound run)))
 
-  pub entered_tick : (r : Result Ticked Refusal) → (Sound means s → Ticks means s r t) → (h : History) → Run means h s → Entered means (entry_tick r) h t
+  pub entered_tick : (r : Result Ticked Refusal) → (Sound s → Ticks s r t) → (h : History) → Run h s → Entered (entry_tick r) h t
   entered_tick (Ok k) does h run =
-      let work = does (run_sound means run) h in
+      let work = does (run_sound run) h in
       entered (entry_tick (Ok k)) (walk_grows work.1.walk) (then_tick k run work.1)
-  entered_tick (Err e) does h run = entered (entry_tick (Err e)) still (then_no_tick e run (does (run_sound means run)))
+  entered_tick (Err e) does h run = entered (entry_tick (Err e)) still (then_no_tick e run (does (run_sound run)))

@@ -24,7 +24,7 @@ use Rattle.history.proofs.Chip.{block_fits, length_wiped, wiped_below, all_free 
 use Rattle.pages.specs.declared.tables.Tables.{Tables}
 use Rattle.pages.specs.Tied.{maps_of, page_in, Tied}
 use Rattle.pages.specs.Recycle.{all_free}
-use Rattle.store.specs.declared.store.Store.{Store}
+use Rattle.store.specs.State.{Standing}
 use Rattle.store.specs.State.{frame_for, SoundAt}
 use Rattle.store.specs.Effects.{asks_frame, asks_open, blank, FreshTables, Opens}
 use Rattle.store.proofs.Booking.{open_sound}
@@ -202,40 +202,40 @@ module _ (m : Meaning) (t : Tables) (fresh : FreshTables m t) where
 
 -- ---- the whole
 
-module _ {C H : Type 0} (means : C → Meaning) (s : Store C H) (numbers alpha pool : ℕ) (none : asks_open s.is_open (means s.chip) numbers alpha pool ≡ None) where
-  pub opens_on : (t : Store C H) → means t.chip ≡ blank (means s.chip) → t.chooser ≡ s.chooser → t.is_open ≡ true
-      → books_of t.ledger ≡ opened_books (frame_for (means s.chip) numbers alpha pool) → FreshTables (means s.chip) t.tables → Opens means s numbers alpha pool (Ok tt) t
+module _ {H : Type 0} (s : Standing H) (numbers alpha pool : ℕ) (none : asks_open s.is_open s.chip numbers alpha pool ≡ None) where
+  pub opens_on : (t : Standing H) → t.chip ≡ blank s.chip → t.chooser ≡ s.chooser → t.is_open ≡ true
+      → books_of t.ledger ≡ opened_books (frame_for s.chip numbers alpha pool) → FreshTables s.chip t.tables → Opens s numbers alpha pool (Ok tt) t
   opens_on t chip chooser is books fresh =
-      let m = means s.chip in
+      let m = s.chip in
       let f = frame_for m numbers alpha pool in
       let o = openable s.is_open f none in
-      let at : SoundAt (means t.chip) (books_of t.ledger) t.tables =
+      let at : SoundAt t.chip (books_of t.ledger) t.tables =
       subst (λ (x : Meaning). SoundAt x (books_of t.ledger) t.tables) (sym chip)
       (subst (λ (x : Books). SoundAt (blank m) x t.tables) (sym books) (fresh_sound m t.tables fresh s.is_open numbers alpha pool o)) in (
         none,
         record { chip = chip; chooser = chooser; is_open = is; books = books; tables = fresh },
-        open_sound means t is (record { at = at; settled = subst Settled (sym books) (opened_settled f) }),
+        open_sound t is (record { at = at; settled = subst Settled (sym books) (opened_settled f) }),
       )
 
-module _ {C H : Type 0} (means : C → Meaning) (s : Store C H) (numbers alpha pool : ℕ) (f : Frame) (is : f ≡ frame_for (means s.chip) numbers alpha pool) where
-  pub asked_open : (x : Unit {0}) → ◌≡◌ {A = Result (Unit {0}) Refusal} (Ok x) (answer (asks_frame s.is_open f) tt) → asks_open s.is_open (means s.chip) numbers alpha pool ≡ None
+module _ {H : Type 0} (s : Standing H) (numbers alpha pool : ℕ) (f : Frame) (is : f ≡ frame_for s.chip numbers alpha pool) where
+  pub asked_open : (x : Unit {0}) → ◌≡◌ {A = Result (Unit {0}) Refusal} (Ok x) (answer (asks_frame s.is_open f) tt) → asks_open s.is_open s.chip numbers alpha pool ≡ None
   asked_open x told = ap (asks_frame s.is_open) (sym is) ∙ none_by (asks_frame s.is_open f) x told
 
-  pub not_opened : (t : Store C H) (e : Refusal) → ◌≡◌ {A = Result (Unit {0}) Refusal} (Err e) (answer (asks_frame s.is_open f) tt) → means t.chip ≡ means s.chip → t.chooser ≡ s.chooser
-      → t.is_open ≡ s.is_open → t.ledger ≡ s.ledger → t.tables ≡ s.tables → Opens means s numbers alpha pool (Err e) t
+  pub not_opened : (t : Standing H) (e : Refusal) → ◌≡◌ {A = Result (Unit {0}) Refusal} (Err e) (answer (asks_frame s.is_open f) tt) → t.chip ≡ s.chip → t.chooser ≡ s.chooser
+      → t.is_open ≡ s.is_open → t.ledger ≡ s.ledger → t.tables ≡ s.tables → Opens s numbers alpha pool (Err e) t
   not_opened t e told chip chooser is_open ledger tables =
       (ap (asks_frame s.is_open) (sym is) ∙ refused_by (asks_frame s.is_open f) e told, record { rest = record { chip = chip; chooser = chooser; is_open = is_open; tables = tables }; ledger = ledger })
 
-  module _ (shaped : Shaped (means s.chip)) (x : Unit {0}) (told : ◌≡◌ {A = Result (Unit {0}) Refusal} (Ok x) (answer (asks_frame s.is_open f) tt)) where
-    pub may : Openable s.is_open (frame_for (means s.chip) numbers alpha pool)
-    may = openable s.is_open (frame_for (means s.chip) numbers alpha pool) (asked_open x told)
+  module _ (shaped : Shaped s.chip) (x : Unit {0}) (told : ◌≡◌ {A = Result (Unit {0}) Refusal} (Ok x) (answer (asks_frame s.is_open f) tt)) where
+    pub may : Openable s.is_open (frame_for s.chip numbers alpha pool)
+    may = openable s.is_open (frame_for s.chip numbers alpha pool) (asked_open x told)
 
     pub frame_refused : option_map books_of None ≡ cond (stands f) (Some (opened_books f)) None → ⊥
     frame_refused said =
-        never_closed s.is_open (frame_for (means s.chip) numbers alpha pool) (small_blocks (means s.chip) shaped) may
+        never_closed s.is_open (frame_for s.chip numbers alpha pool) (small_blocks s.chip shaped) may
         (said ∙ ap (λ (y : Frame). cond (stands y) (Some (opened_books y)) None) is)
 
-    pub frame_opened : (l : Ledger) → option_map books_of (Some l) ≡ cond (stands f) (Some (opened_books f)) None → books_of l ≡ opened_books (frame_for (means s.chip) numbers alpha pool)
+    pub frame_opened : (l : Ledger) → option_map books_of (Some l) ≡ cond (stands f) (Some (opened_books f)) None → books_of l ≡ opened_books (frame_for s.chip numbers alpha pool)
     frame_opened l said =
-        ledger_opened s.is_open (frame_for (means s.chip) numbers alpha pool) l (small_blocks (means s.chip) shaped) may
+        ledger_opened s.is_open (frame_for s.chip numbers alpha pool) l (small_blocks s.chip shaped) may
         (said ∙ ap (λ (y : Frame). cond (stands y) (Some (opened_books y)) None) is)

@@ -21,7 +21,7 @@ use Rattle.history.specs.Joined.{OnPages}
 use Rattle.history.specs.Follows.{Follows}
 use Rattle.history.proofs.Follows.{call_follows}
 use Rattle.pages.specs.Tied.{maps_of}
-use Rattle.store.specs.declared.store.Store.{Store}
+use Rattle.store.specs.State.{Standing}
 use Rattle.store.specs.State.{SoundAt, OpenSound, Sound}
 use Rattle.store.specs.Effects.{if_open, ledger_asks, SameButBooks, Same, Booked}
 
@@ -31,55 +31,55 @@ pub record Plain (e : Entry) : Type 0 where
   pub answered : (l : ℕ → Seat) → Answered e l
   pub says : (f : Frame) (h : History) → OnPages f e h
 
-module _ {C H : Type 0} (means : C → Meaning) where
-  abbrev pub FollowsFrom : History → Store C H → Type 0
-  FollowsFrom h s = Follows s.ledger.frame h (λ i. seat_of (books_of s.ledger) i) (maps_of s.tables) (means s.chip).pages
+module _ {H : Type 0} where
+  abbrev pub FollowsFrom : History → Standing H → Type 0
+  FollowsFrom h s = Follows s.ledger.frame h (λ i. seat_of (books_of s.ledger) i) (maps_of s.tables) s.chip.pages
 
-  pub record OpenInv (h : History) (s : Store C H) : Type 0 where
-    pub sound : OpenSound means s
+  pub record OpenInv (h : History) (s : Standing H) : Type 0 where
+    pub sound : OpenSound s
     pub follows : FollowsFrom h s
 
-  abbrev pub Inv : History → Store C H → Type 0
+  abbrev pub Inv : History → Standing H → Type 0
   Inv h s = MatchBool s.is_open (OpenInv h s) (ShutPromise h)
 
-  pub inv_open : (h : History) (s : Store C H) → s.is_open ≡ true → Inv h s → OpenInv h s
+  pub inv_open : (h : History) (s : Standing H) → s.is_open ≡ true → Inv h s → OpenInv h s
   inv_open h s is inv = subst (λ o. MatchBool o (OpenInv h s) (ShutPromise h)) is inv
 
-  pub inv_shut : (h : History) (s : Store C H) → s.is_open ≡ false → Inv h s → ShutPromise h
+  pub inv_shut : (h : History) (s : Standing H) → s.is_open ≡ false → Inv h s → ShutPromise h
   inv_shut h s is inv = subst (λ o. MatchBool o (OpenInv h s) (ShutPromise h)) is inv
 
-  pub open_inv : (h : History) (s : Store C H) → s.is_open ≡ true → OpenInv h s → Inv h s
+  pub open_inv : (h : History) (s : Standing H) → s.is_open ≡ true → OpenInv h s → Inv h s
   open_inv h s is inv = subst (λ o. MatchBool o (OpenInv h s) (ShutPromise h)) (sym is) inv
 
-  pub shut_inv : (h : History) (s : Store C H) → s.is_open ≡ false → ShutPromise h → Inv h s
+  pub shut_inv : (h : History) (s : Standing H) → s.is_open ≡ false → ShutPromise h → Inv h s
   shut_inv h s is inv = subst (λ o. MatchBool o (OpenInv h s) (ShutPromise h)) (sym is) inv
 
-  pub sound_open : (s : Store C H) → s.is_open ≡ true → Sound means s → OpenSound means s
-  sound_open s is sound = subst (λ o. MatchBool o (OpenSound means s) (Unit {0})) is sound
+  pub sound_open : (s : Standing H) → s.is_open ≡ true → Sound s → OpenSound s
+  sound_open s is sound = subst (λ o. MatchBool o (OpenSound s) (Unit {0})) is sound
 
-  pub open_sound : (s : Store C H) → s.is_open ≡ true → OpenSound means s → Sound means s
-  open_sound s is sound = subst (λ o. MatchBool o (OpenSound means s) (Unit {0})) (sym is) sound
+  pub open_sound : (s : Standing H) → s.is_open ≡ true → OpenSound s → Sound s
+  open_sound s is sound = subst (λ o. MatchBool o (OpenSound s) (Unit {0})) (sym is) sound
 
   -- the ledger keeps these at all times
-  pub eight_seats : (s : Store C H) → length (books_of s.ledger).seats ≡ 8
+  pub eight_seats : (s : Standing H) → length (books_of s.ledger).seats ≡ 8
   eight_seats s = (fair_of s.ledger).eight
 
-  pub some_pages : (s : Store C H) → 0 < s.ledger.frame.pages_per_block
+  pub some_pages : (s : Standing H) → 0 < s.ledger.frame.pages_per_block
   some_pages s = let low = (fair_of s.ledger).yields in let high = (fair_of s.ledger).yields_within in omega arith
 
   -- what follows is of frame, map and pages alone
-  pub follows_along : (h : History) (s t : Store C H) → t.ledger.frame ≡ s.ledger.frame → SameButBooks means s t
-      → Follows s.ledger.frame h (λ i. seat_of (books_of t.ledger) i) (maps_of s.tables) (means s.chip).pages → FollowsFrom h t
+  pub follows_along : (h : History) (s t : Standing H) → t.ledger.frame ≡ s.ledger.frame → SameButBooks s t
+      → Follows s.ledger.frame h (λ i. seat_of (books_of t.ledger) i) (maps_of s.tables) s.chip.pages → FollowsFrom h t
   follows_along h s t frame rest follows =
-      subst (λ f. Follows f h (λ i. seat_of (books_of t.ledger) i) (maps_of t.tables) (means t.chip).pages) (sym frame)
+      subst (λ f. Follows f h (λ i. seat_of (books_of t.ledger) i) (maps_of t.tables) t.chip.pages) (sym frame)
       (subst (λ m. Follows s.ledger.frame h (λ i. seat_of (books_of t.ledger) i) (maps_of t.tables) m.pages) (sym rest.chip)
-      (subst (λ x. Follows s.ledger.frame h (λ i. seat_of (books_of t.ledger) i) (maps_of x) (means s.chip).pages) (sym rest.tables) follows))
+      (subst (λ x. Follows s.ledger.frame h (λ i. seat_of (books_of t.ledger) i) (maps_of x) s.chip.pages) (sym rest.tables) follows))
 
   -- ---- a call that touches the ledger alone
 
-  module _ (h : History) (s t : Store C H) where
+  module _ (h : History) (s t : Standing H) where
     -- by the books after it
-    pub call_open : (e : Entry) (after : Books) → s.is_open ≡ true → SameButBooks means s t → books_of t.ledger ≡ after → after.frame ≡ s.ledger.frame → Sound means t
+    pub call_open : (e : Entry) (after : Books) → s.is_open ≡ true → SameButBooks s t → books_of t.ledger ≡ after → after.frame ≡ s.ledger.frame → Sound t
         → is_call e ≡ true → Still e → Answered e (λ i. seat_of (books_of s.ledger) i) → OnPages s.ledger.frame e h
         → ((k : ℕ) → Step s.ledger.frame k e (seat_of (books_of s.ledger) k) (seat_of after k))
         → OpenInv h s → Inv (e ∷ h) t
@@ -92,11 +92,11 @@ module _ {C H : Type 0} (means : C → Meaning) where
               (subst (λ b. (k : ℕ) → Step s.ledger.frame k e (seat_of (books_of s.ledger) k) (seat_of b k)) (sym books) step));
         })
 
-    pub shut_call : (e : Entry) → s.is_open ≡ false → SameButBooks means s t → ShutEntry e → Inv h s → Inv (e ∷ h) t
+    pub shut_call : (e : Entry) → s.is_open ≡ false → SameButBooks s t → ShutEntry e → Inv h s → Inv (e ∷ h) t
     shut_call e is rest refused inv = shut_inv (e ∷ h) t (rest.is_open ∙ is) (refused, inv_shut h s is inv)
 
     module _ {X : Type 0} (x : X) (entry : Result X Refusal → Entry) (after : Books) (frame : after.frame ≡ s.ledger.frame) where
-      booked_by : (q : Option Refusal) (r : Result X Refusal) → r ≡ answer q x → s.is_open ≡ true → SameButBooks means s t → books_of t.ledger ≡ unless q after (books_of s.ledger) → Sound means t
+      booked_by : (q : Option Refusal) (r : Result X Refusal) → r ≡ answer q x → s.is_open ≡ true → SameButBooks s t → books_of t.ledger ≡ unless q after (books_of s.ledger) → Sound t
           → (q ≡ None → Plain (entry (Ok x)) × ((k : ℕ) → Step s.ledger.frame k (entry (Ok x)) (seat_of (books_of s.ledger) k) (seat_of after k)))
           → ((e : Refusal) → q ≡ Some e → Plain (entry (Err e)) × ((k : ℕ) → Step s.ledger.frame k (entry (Err e)) (seat_of (books_of s.ledger) k) (seat_of (books_of s.ledger) k)))
           → OpenInv h s → Inv (entry r ∷ h) t
@@ -109,8 +109,8 @@ module _ {C H : Type 0} (means : C → Meaning) where
           subst (λ y. Inv (entry y ∷ h) t) (sym told)
           (call_open (entry (Err e)) (books_of s.ledger) is rest books refl sound p.0.call p.0.still (p.0.answered _) (p.0.says s.ledger.frame h) p.1 inv)
 
-      booked_either : (o : Bool) → s.is_open ≡ o → (q : Option Refusal) (r : Result X Refusal) → r ≡ answer (if_open o q) x → SameButBooks means s t
-          → books_of t.ledger ≡ unless (if_open o q) after (books_of s.ledger) → (Sound means s → Sound means t)
+      booked_either : (o : Bool) → s.is_open ≡ o → (q : Option Refusal) (r : Result X Refusal) → r ≡ answer (if_open o q) x → SameButBooks s t
+          → books_of t.ledger ≡ unless (if_open o q) after (books_of s.ledger) → (Sound s → Sound t)
           → ShutEntry (entry (Err NotOpen))
           → (q ≡ None → Plain (entry (Ok x)) × ((k : ℕ) → Step s.ledger.frame k (entry (Ok x)) (seat_of (books_of s.ledger) k) (seat_of after k)))
           → ((e : Refusal) → q ≡ Some e → Plain (entry (Err e)) × ((k : ℕ) → Step s.ledger.frame k (entry (Err e)) (seat_of (books_of s.ledger) k) (seat_of (books_of s.ledger) k)))
@@ -121,7 +121,7 @@ module _ {C H : Type 0} (means : C → Meaning) where
       booked_either false is q r told rest books sound shut granted refused inv =
           subst (λ y. Inv (entry y ∷ h) t) (sym told) (shut_call (entry (Err NotOpen)) is rest shut inv)
 
-      pub booked_inv : (q : Option Refusal) (r : Result X Refusal) → r ≡ answer (ledger_asks means s q) x → Booked means s q after t
+      pub booked_inv : (q : Option Refusal) (r : Result X Refusal) → r ≡ answer (ledger_asks s q) x → Booked s q after t
           → ShutEntry (entry (Err NotOpen))
           → (q ≡ None → Plain (entry (Ok x)) × ((k : ℕ) → Step s.ledger.frame k (entry (Ok x)) (seat_of (books_of s.ledger) k) (seat_of after k)))
           → ((e : Refusal) → q ≡ Some e → Plain (entry (Err e)) × ((k : ℕ) → Step s.ledger.frame k (entry (Err e)) (seat_of (books_of s.ledger) k) (seat_of (books_of s.ledger) k)))
@@ -131,19 +131,19 @@ module _ {C H : Type 0} (means : C → Meaning) where
 
   -- ---- a call that changes nothing
 
-  pub same_sound : (s t : Store C H) → Same means s t → OpenSound means s → OpenSound means t
+  pub same_sound : (s t : Standing H) → Same s t → OpenSound s → OpenSound t
   same_sound s t same sound =
       record {
         at = subst (λ m. SoundAt m (books_of t.ledger) t.tables) (sym same.rest.chip)
-            (subst (λ l. SoundAt (means s.chip) (books_of l) t.tables) (sym same.ledger)
-            (subst (λ x. SoundAt (means s.chip) (books_of s.ledger) x) (sym same.rest.tables) sound.at));
+            (subst (λ l. SoundAt s.chip (books_of l) t.tables) (sym same.ledger)
+            (subst (λ x. SoundAt s.chip (books_of s.ledger) x) (sym same.rest.tables) sound.at));
         settled = subst (λ l. Settled (books_of l)) (sym same.ledger) sound.settled;
       }
 
-  pub same_inv : (h : History) (s t : Store C H) (e : Entry) → s.is_open ≡ true → Same means s t → OpenInv h s → FollowsFrom (e ∷ h) s → Inv (e ∷ h) t
+  pub same_inv : (h : History) (s t : Standing H) (e : Entry) → s.is_open ≡ true → Same s t → OpenInv h s → FollowsFrom (e ∷ h) s → Inv (e ∷ h) t
   same_inv h s t e is same inv follows =
       open_inv (e ∷ h) t (same.rest.is_open ∙ is) (record {
         sound = same_sound s t same inv.sound;
         follows = follows_along (e ∷ h) s t (ap (λ l. l.frame) same.ledger) same.rest
-            (subst (λ l. Follows s.ledger.frame (e ∷ h) (λ i. seat_of (books_of l) i) (maps_of s.tables) (means s.chip).pages) (sym same.ledger) follows);
+            (subst (λ l. Follows s.ledger.frame (e ∷ h) (λ i. seat_of (books_of l) i) (maps_of s.tables) s.chip.pages) (sym same.ledger) follows);
       })

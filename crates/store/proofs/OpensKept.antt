@@ -15,7 +15,7 @@ use Rattle.history.specs.Work.{erased_first}
 use Rattle.history.specs.Follows.{Follows}
 use Rattle.history.proofs.Follows.{opening_follows, reopening_follows}
 use Rattle.pages.specs.Tied.{maps_of}
-use Rattle.store.specs.declared.store.Store.{Store}
+use Rattle.store.specs.State.{Standing}
 use Rattle.store.specs.State.{frame_for, Sound}
 use Rattle.store.specs.Effects.{asks_open, Opened, Opens, Same, Ticks}
 use Rattle.store.specs.Calls.{entry_open, erases, entry_tick}
@@ -45,41 +45,41 @@ refused_for m numbers alpha pool e is =
     (λ is. question (yield_rule m.blocks m.per_block numbers (pool + m.allowance) alpha) YieldRuleFails None e P is (omega arith, omega arith)
     (λ is. no_question e (P e) is))))
 
-module _ {C H : Type 0} (means : C → Meaning) (h : History) (s t : Store C H) where
-  opened_follows : (numbers alpha pool : ℕ) → Opened means s numbers alpha pool t → ShutPromise h
-      → Follows t.ledger.frame (opened numbers alpha pool ∷ erased_first (means s.chip).blocks h) (λ i. seat_of (books_of t.ledger) i) (maps_of t.tables) (means t.chip).pages
+module _ {H : Type 0} (h : History) (s t : Standing H) where
+  opened_follows : (numbers alpha pool : ℕ) → Opened s numbers alpha pool t → ShutPromise h
+      → Follows t.ledger.frame (opened numbers alpha pool ∷ erased_first s.chip.blocks h) (λ i. seat_of (books_of t.ledger) i) (maps_of t.tables) t.chip.pages
   opened_follows numbers alpha pool o shut =
-      let f = frame_for (means s.chip) numbers alpha pool in
+      let f = frame_for s.chip numbers alpha pool in
       let seats : (i : ℕ) → (seat_of (books_of t.ledger) i).status ≡ Empty =
       λ i. ap (λ (b : Books). (seat_of b i).status) o.books ∙ ap (λ x. x.status) (filled nobody 8 i) in
       let unmapped : (n : ℕ) → maps_of t.tables n ≡ None =
       λ n. ap (λ (x : List (Option ℕ)). get_or x n None) o.tables.map ∙ filled None 1920 n in
-      let past = opened numbers alpha pool ∷ erased_first (means s.chip).blocks h in
-      subst (λ g. Follows g past (λ i. seat_of (books_of t.ledger) i) (maps_of t.tables) (means t.chip).pages) (sym (ap (λ (b : Books). b.frame) o.books))
+      let past = opened numbers alpha pool ∷ erased_first s.chip.blocks h in
+      subst (λ g. Follows g past (λ i. seat_of (books_of t.ledger) i) (maps_of t.tables) t.chip.pages) (sym (ap (λ (b : Books). b.frame) o.books))
       (subst (λ m. Follows f past (λ i. seat_of (books_of t.ledger) i) (maps_of t.tables) m.pages) (sym o.chip)
       (opening_follows f h (λ i. seat_of (books_of t.ledger) i) (maps_of t.tables) shut seats unmapped))
 
-  open_ok : (numbers alpha pool : ℕ) (u : Unit {0}) (o : Bool) → s.is_open ≡ o → asks_open o (means s.chip) numbers alpha pool ≡ None → Opened means s numbers alpha pool t → Sound means t
-      → Inv means h s → Inv means (opened numbers alpha pool ∷ erased_first (means s.chip).blocks h) t
+  open_ok : (numbers alpha pool : ℕ) (u : Unit {0}) (o : Bool) → s.is_open ≡ o → asks_open o s.chip numbers alpha pool ≡ None → Opened s numbers alpha pool t → Sound t
+      → Inv h s → Inv (opened numbers alpha pool ∷ erased_first s.chip.blocks h) t
   open_ok numbers alpha pool u true is none o sound inv = let z : ◌≡◌ {A = ℕ} 0 1 = cc in absurd (omega arith)
   open_ok numbers alpha pool u false is none o sound inv =
-      open_inv means _ t o.is_open (record { sound = sound_open means t o.is_open sound; follows = opened_follows numbers alpha pool o (inv_shut means h s is inv) })
+      open_inv _ t o.is_open (record { sound = sound_open t o.is_open sound; follows = opened_follows numbers alpha pool o (inv_shut h s is inv) })
 
-  open_err : (numbers alpha pool : ℕ) (e : Refusal) (o : Bool) → s.is_open ≡ o → asks_open o (means s.chip) numbers alpha pool ≡ Some e → Same means s t
-      → Inv means h s → Inv means (refused (opening numbers alpha pool) (number e) ∷ h) t
+  open_err : (numbers alpha pool : ℕ) (e : Refusal) (o : Bool) → s.is_open ≡ o → asks_open o s.chip numbers alpha pool ≡ Some e → Same s t
+      → Inv h s → Inv (refused (opening numbers alpha pool) (number e) ∷ h) t
   open_err numbers alpha pool e true is some same inv =
-      let here = inv_open means h s is inv in
+      let here = inv_open h s is inv in
       let why : AlreadyOpen ≡ e = cc in
-      subst (λ x. Inv means (refused (opening numbers alpha pool) (number x) ∷ h) t) why
-      (same_inv means h s t (refused (opening numbers alpha pool) 1) is same here (reopening_follows here.follows numbers alpha pool))
+      subst (λ x. Inv (refused (opening numbers alpha pool) (number x) ∷ h) t) why
+      (same_inv h s t (refused (opening numbers alpha pool) 1) is same here (reopening_follows here.follows numbers alpha pool))
   open_err numbers alpha pool e false is some same inv =
-      shut_call means h s t (refused (opening numbers alpha pool) (number e)) is same.rest (refused_for (means s.chip) numbers alpha pool e some) inv
+      shut_call h s t (refused (opening numbers alpha pool) (number e)) is same.rest (refused_for s.chip numbers alpha pool e some) inv
 
-  pub open_call_inv : (numbers alpha pool : ℕ) (r : Result (Unit {0}) Refusal) → Opens means s numbers alpha pool r t
-      → Inv means h s → Inv means (entry_open numbers alpha pool r ∷ erases (means s.chip).blocks r h) t
+  pub open_call_inv : (numbers alpha pool : ℕ) (r : Result (Unit {0}) Refusal) → Opens s numbers alpha pool r t
+      → Inv h s → Inv (entry_open numbers alpha pool r ∷ erases s.chip.blocks r h) t
   open_call_inv numbers alpha pool (Ok u) e inv = open_ok numbers alpha pool u s.is_open refl e.0 e.1 e.2 inv
   open_call_inv numbers alpha pool (Err x) e inv = open_err numbers alpha pool x s.is_open refl e.0 e.1 inv
 
   -- a tick is refused by a store that is shut
-  pub no_tick_inv : (e : Refusal) → Ticks means s (Err e) t → Inv means h s → Inv means (entry_tick (Err e) ∷ h) t
-  no_tick_inv e x inv = shut_call means h s t (refused tick (number e)) x.0 x.2.rest (ap number x.1) inv
+  pub no_tick_inv : (e : Refusal) → Ticks s (Err e) t → Inv h s → Inv (entry_tick (Err e) ∷ h) t
+  no_tick_inv e x inv = shut_call h s t (refused tick (number e)) x.0 x.2.rest (ap number x.1) inv

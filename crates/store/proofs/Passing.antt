@@ -4,7 +4,7 @@ use Rattle.chip.specs.Meaning.{Meaning, Shaped}
 use Rattle.ledger.specs.Of.{books_of}
 use Rattle.history.specs.History.{History}
 use Rattle.pages.proofs.Writing.{few_failures}
-use Rattle.store.specs.declared.store.Store.{Store}
+use Rattle.store.specs.State.{Standing}
 use Rattle.store.specs.declared.ticked.Ticked.{Ticked}
 use Rattle.store.specs.State.{OpenSound, Sound}
 use Rattle.store.specs.Tick.{Walk, begun}
@@ -12,30 +12,30 @@ use Rattle.store.specs.Effects.{desk_of, Passed}
 use Rattle.store.specs.Walking.{Walked}
 use Rattle.store.proofs.Serving.{walked_none}
 
-module _ {C H : Type 0} (means : C → Meaning) where
-  pub open_of : (s : Store C H) → s.is_open ≡ true → Sound means s → OpenSound means s
-  open_of s opened sound = subst (λ b. MatchBool b (OpenSound means s) (Unit {0})) opened sound
+module _ {H : Type 0} where
+  pub open_of : (s : Standing H) → s.is_open ≡ true → Sound s → OpenSound s
+  open_of s opened sound = subst (λ b. MatchBool b (OpenSound s) (Unit {0})) opened sound
 
-  pub sound_of : (s : Store C H) → s.is_open ≡ true → OpenSound means s → Sound means s
-  sound_of s opened sound = subst (λ b. MatchBool b (OpenSound means s) (Unit {0})) (sym opened) sound
+  pub sound_of : (s : Standing H) → s.is_open ≡ true → OpenSound s → Sound s
+  sound_of s opened sound = subst (λ b. MatchBool b (OpenSound s) (Unit {0})) (sym opened) sound
 
-  pub walked_begun : (s : Store C H) → OpenSound means s → Shaped (means s.chip)
-      → Walked means (record { runs = 0; recycles = 0; copies = 0; tries = 0 }) s 0 (record { runs = 0; recycles = 0; copies = 0; tries = 0 }) s
+  pub walked_begun : (s : Standing H) → OpenSound s → Shaped s.chip
+      → Walked (record { runs = 0; recycles = 0; copies = 0; tries = 0 }) s 0 (record { runs = 0; recycles = 0; copies = 0; tries = 0 }) s
   walked_begun s sound shaped =
-      walked_none means (record { runs = 0; recycles = 0; copies = 0; tries = 0 }) s sound.at sound.settled
-      (record { runs = omega arith; recycles = omega arith; copies = omega arith; tries = omega (arith, few_failures (means s.chip) shaped) })
+      walked_none (record { runs = 0; recycles = 0; copies = 0; tries = 0 }) s sound.at sound.settled
+      (record { runs = omega arith; recycles = omega arith; copies = omega arith; tries = omega (arith, few_failures s.chip shaped) })
 
-  pub passed_all : (s : Store C H) → s.is_open ≡ true → (done : ℕ) (l : Ticked) (t : Store C H) → done ≡ 8 → Walked means (record { runs = 0; recycles = 0; copies = 0; tries = 0 }) s done l t
-      → (h : History) → ((h' : History) × Passed means s l h h' t)
+  pub passed_all : (s : Standing H) → s.is_open ≡ true → (done : ℕ) (l : Ticked) (t : Standing H) → done ≡ 8 → Walked (record { runs = 0; recycles = 0; copies = 0; tries = 0 }) s done l t
+      → (h : History) → ((h' : History) × Passed s l h h' t)
   passed_all s opened done l t all y h =
-      let v = y.goes (books_of s.ledger) (desk_of means h s) h begun in (
+      let v = y.goes (books_of s.ledger) (desk_of h s) h begun in (
         v.0,
         record {
           open_before = opened;
           is_open = y.between.is_open ∙ opened;
           failed = omega (arith, y.between.failed);
           sizes = y.between.sizes;
-          walk = subst (λ i. Walk (books_of s.ledger) (desk_of means h s) i false l.runs l.recycles l.copies l.tries (books_of t.ledger) (desk_of means v.0 t)) all v.1;
+          walk = subst (λ i. Walk (books_of s.ledger) (desk_of h s) i false l.runs l.recycles l.copies l.tries (books_of t.ledger) (desk_of v.0 t)) all v.1;
           sound = sound_of t (y.between.is_open ∙ opened) (record { at = y.between.sound; settled = y.settled });
         },
       )

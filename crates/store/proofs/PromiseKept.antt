@@ -6,7 +6,7 @@ use Rattle.ledger.specs.Of.{books_of}
 use Rattle.history.specs.History.{History}
 use Rattle.history.specs.Promise.{Promised}
 use Rattle.history.proofs.Follows.{follows_promised, shut_promised}
-use Rattle.store.specs.declared.store.Store.{Store}
+use Rattle.store.specs.State.{Standing}
 use Rattle.store.specs.State.{OpenSound, Sound, view_of}
 use Rattle.store.specs.Calls.{Run, fresh, then_open, then_admit, then_notice, then_take, then_return, then_store, then_no_store, then_read, then_tick, then_no_tick}
 use Rattle.store.proofs.Invariant.{Inv, inv_open, inv_shut, shut_inv, open_sound, some_pages}
@@ -16,35 +16,35 @@ use Rattle.store.proofs.SavesKept.{stored_inv, no_store_inv}
 use Rattle.store.proofs.ReadsKept.{read_inv}
 use Rattle.store.proofs.TicksKept.{tick_inv}
 
-module _ {C H : Type 0} (means : C → Meaning) where
-  pub run_inv : {h : History} {s : Store C H} → Run means h s → Inv means h s
-  run_inv (fresh {s = s} shut) = shut_inv means [] s shut tt
-  run_inv (then_open {h = h} {s = s} {t = t} numbers alpha pool r run e) = open_call_inv means h s t numbers alpha pool r e (run_inv run)
-  run_inv (then_admit {h = h} {s = s} {t = t} i p w r run e) = admit_inv means h s t i p w r e (run_inv run)
-  run_inv (then_notice {h = h} {s = s} {t = t} i r run e) = notice_inv means h s t i r e (run_inv run)
-  run_inv (then_take {h = h} {s = s} {t = t} i r run e) = take_inv means h s t i r e (run_inv run)
-  run_inv (then_return {h = h} {s = s} {t = t} i r run e) = return_inv means h s t i r e (run_inv run)
-  run_inv (then_store {h = h} {h' = h'} {s = s} {t = t} i n d tries run none e) = stored_inv means s t i n d h h' tries none e (run_inv run)
-  run_inv (then_no_store {h = h} {s = s} {t = t} i n d x run e) = no_store_inv means s t i n d h x e (run_inv run)
-  run_inv (then_read {h = h} {s = s} {t = t} n before after r run e) = read_inv means h s t n before after r e (run_inv run)
-  run_inv (then_tick {h = h} {h' = h'} {s = s} {t = t} k run e) = tick_inv means h h' s t k e (run_inv run)
-  run_inv (then_no_tick {h = h} {s = s} {t = t} x run e) = no_tick_inv means h s t x e (run_inv run)
+module _ {H : Type 0} where
+  pub run_inv : {h : History} {s : Standing H} → Run h s → Inv h s
+  run_inv (fresh {s = s} shut) = shut_inv [] s shut tt
+  run_inv (then_open {h = h} {s = s} {t = t} numbers alpha pool r run e) = open_call_inv h s t numbers alpha pool r e (run_inv run)
+  run_inv (then_admit {h = h} {s = s} {t = t} i p w r run e) = admit_inv h s t i p w r e (run_inv run)
+  run_inv (then_notice {h = h} {s = s} {t = t} i r run e) = notice_inv h s t i r e (run_inv run)
+  run_inv (then_take {h = h} {s = s} {t = t} i r run e) = take_inv h s t i r e (run_inv run)
+  run_inv (then_return {h = h} {s = s} {t = t} i r run e) = return_inv h s t i r e (run_inv run)
+  run_inv (then_store {h = h} {h' = h'} {s = s} {t = t} i n d tries run none e) = stored_inv s t i n d h h' tries none e (run_inv run)
+  run_inv (then_no_store {h = h} {s = s} {t = t} i n d x run e) = no_store_inv s t i n d h x e (run_inv run)
+  run_inv (then_read {h = h} {s = s} {t = t} n before after r run e) = read_inv h s t n before after r e (run_inv run)
+  run_inv (then_tick {h = h} {h' = h'} {s = s} {t = t} k run e) = tick_inv h h' s t k e (run_inv run)
+  run_inv (then_no_tick {h = h} {s = s} {t = t} x run e) = no_tick_inv h s t x e (run_inv run)
 
-  module _ (h : History) (s : Store C H) (inv : Inv means h s) where
-    sound_by : (o : Bool) → s.is_open ≡ o → Sound means s
-    sound_by true is = open_sound means s is (inv_open means h s is inv).sound
-    sound_by false is = subst (λ o. MatchBool o (OpenSound means s) (Unit {0})) (sym is) tt
+  module _ (h : History) (s : Standing H) (inv : Inv h s) where
+    sound_by : (o : Bool) → s.is_open ≡ o → Sound s
+    sound_by true is = open_sound s is (inv_open h s is inv).sound
+    sound_by false is = subst (λ o. MatchBool o (OpenSound s) (Unit {0})) (sym is) tt
 
-    promised_by : (o : Bool) → s.is_open ≡ o → Promised (means s.chip) h (view_of means s)
+    promised_by : (o : Bool) → s.is_open ≡ o → Promised s.chip h (view_of s)
     promised_by true is =
-        let here = inv_open means h s is inv in
+        let here = inv_open h s is inv in
         let at = here.sound.at in
-        follows_promised s.ledger.frame (means s.chip) h (λ i. seat_of (books_of s.ledger) i) (view_of means s) (some_pages means s) here.follows (λ i. (refl, refl))
+        follows_promised s.ledger.frame s.chip h (λ i. seat_of (books_of s.ledger) i) (view_of s) (some_pages s) here.follows (λ i. (refl, refl))
         (sym at.blocks) (sym at.per_block) (sym at.page_size)
-    promised_by false is = shut_promised (means s.chip) h (view_of means s) (inv_shut means h s is inv)
+    promised_by false is = shut_promised s.chip h (view_of s) (inv_shut h s is inv)
 
-  pub run_sound : {h : History} {s : Store C H} → Run means h s → Sound means s
+  pub run_sound : {h : History} {s : Standing H} → Run h s → Sound s
   run_sound {h} {s} run = sound_by h s (run_inv run) s.is_open refl
 
-  pub run_promised : {h : History} {s : Store C H} → Run means h s → Promised (means s.chip) h (view_of means s)
+  pub run_promised : {h : History} {s : Standing H} → Run h s → Promised s.chip h (view_of s)
   run_promised {h} {s} run = promised_by h s (run_inv run) s.is_open refl

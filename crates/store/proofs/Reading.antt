@@ -11,7 +11,7 @@ use Rattle.ledger.specs.Books.{Books}
 use Rattle.ledger.specs.Of.{books_of}
 use Rattle.pages.specs.declared.tables.Tables.{Tables}
 use Rattle.pages.specs.Tied.{maps_of, Tied}
-use Rattle.store.specs.declared.store.Store.{Store}
+use Rattle.store.specs.State.{Standing}
 use Rattle.store.specs.State.{Sound}
 use Rattle.store.specs.Effects.{stored_at, read_from, read_told, Same, Reads}
 use Rattle.store.proofs.Booking.{sound_open}
@@ -50,13 +50,13 @@ in_range is_open b n room stored is known =
     cond-true is_open (cond (ltb n b.frame.numbers) (read_from stored room) (Err NoSuchNumber)) (Err NotOpen) is
     ∙ cond-true (ltb n b.frame.numbers) (read_from stored room) (Err NoSuchNumber) (lt-ltb n b.frame.numbers known)
 
-module _ {C H : Type 0} (means : C → Meaning) (s t : Store C H) (n : ℕ) (before after : List ℕ) where
+module _ {H : Type 0} (s t : Standing H) (n : ℕ) (before after : List ℕ) where
   -- a fetch from the page that the map names is refused only where the buffer is too short
-  pub too_short : s.is_open ≡ true → Same means s t → n < (books_of s.ledger).frame.numbers → (q : ℕ) → (n < 1920 → Some q ≡ maps_of s.tables n) → Sound means s
-      → (e : ChipRefusal) → Err e ≡ fetched (means s.chip) q (length before) → after ≡ before → Reads means s n before (Err BufferTooShort) t after
+  pub too_short : s.is_open ≡ true → Same s t → n < (books_of s.ledger).frame.numbers → (q : ℕ) → (n < 1920 → Some q ≡ maps_of s.tables n) → Sound s
+      → (e : ChipRefusal) → Err e ≡ fetched s.chip q (length before) → after ≡ before → Reads s n before (Err BufferTooShort) t after
   too_short is same known q named sound e told stays =
-      let m = means s.chip in
-      let o = (sound_open means s is sound).at in
+      let m = s.chip in
+      let o = (sound_open s is sound).at in
       let here : maps_of s.tables n ≡ Some q = sym (named (omega (arith, known, o.numbers))) in
       let page = read_page m s.tables n q (length before) (Err e) o.tied here told in (
         read_err m q (length before) e page

@@ -19,7 +19,7 @@ use Rattle.pages.specs.declared.emptied.Emptied.{Emptied}
 use Rattle.pages.specs.declared.tables.Tables.{Tables}
 use Rattle.pages.specs.Tied.{maps_of, page_in}
 use Rattle.pages.specs.Recycle.{per_block, all_free, CanRecycle, Recycled}
-use Rattle.store.specs.declared.store.Store.{Store}
+use Rattle.store.specs.State.{Standing}
 use Rattle.store.specs.declared.ticked.Ticked.{Ticked}
 use Rattle.store.specs.State.{paid_for, SoundAt}
 use Rattle.store.specs.Tick.{Recycle, Walk, runs_free, runs_recycled}
@@ -52,7 +52,7 @@ recycle_told m b t s copies tries n u r h =
       start = r.start ∙ ap (λ x. after_wipe x r.block r.passed.start) per;
     }
 
-module _ {C H : Type 0} (means : C → Meaning) (n i : ℕ) (k : Ticked) (s : Store C H) (can : CanRun means n i k s) where
+module _ {H : Type 0} (n i : ℕ) (k : Ticked) (s : Standing H) (can : CanRun n i k s) where
   fair : FairBooks (books_of s.ledger)
   fair = fair_of s.ledger
 
@@ -64,19 +64,19 @@ module _ {C H : Type 0} (means : C → Meaning) (n i : ℕ) (k : Ticked) (s : St
 
   -- ---- there were pages to spare
 
-  module _ (l : Ledger) (made : books_of l ≡ made_one (books_of s.ledger) i) (wide : tokens (books_of s.ledger) + (books_of s.ledger).frame.alpha ≤ all_free (means s.chip)) where
-    after_run : Store C H
+  module _ (l : Ledger) (made : books_of l ≡ made_one (books_of s.ledger) i) (wide : tokens (books_of s.ledger) + (books_of s.ledger).frame.alpha ≤ all_free s.chip) where
+    after_run : Standing H
     after_run = record { chip = s.chip; chooser = s.chooser; is_open = s.is_open; ledger = l; tables = s.tables }
 
     books_run : books_of l ≡ ran_once (books_of s.ledger) i
     books_run = made ∙ made_one_is (books_of s.ledger) i fair can.owing
 
-    pub ran_free : Ran means n i k s (one_run k) (record { chip = s.chip; chooser = s.chooser; is_open = s.is_open; ledger = l; tables = s.tables })
+    pub ran_free : Ran n i k s (one_run k) (record { chip = s.chip; chooser = s.chooser; is_open = s.is_open; ledger = l; tables = s.tables })
     ran_free =
         record {
           between =
               record {
-                sound = subst (λ b. SoundAt (means s.chip) b s.tables) (sym books_run) (sound_ran (means s.chip) (books_of s.ledger) s.tables can.sound i there wide);
+                sound = subst (λ b. SoundAt s.chip b s.tables) (sym books_run) (sound_ran s.chip (books_of s.ledger) s.tables can.sound i there wide);
                 few =
                     record {
                       runs = omega (arith, can.few.runs);
@@ -89,18 +89,18 @@ module _ {C H : Type 0} (means : C → Meaning) (n i : ℕ) (k : Ticked) (s : St
                 is_open = refl;
               };
           goes = λ b x h w.
-              (h, subst (λ c. Walk b x i true (k.runs + 1) k.recycles k.copies k.tries c (desk_of means h s)) (sym books_run) (runs_free w can.owing wide));
+              (h, subst (λ c. Walk b x i true (k.runs + 1) k.recycles k.copies k.tries c (desk_of h s)) (sym books_run) (runs_free w can.owing wide));
           owing = ap (λ c. owes c i + 1) books_run ∙ owes_less (books_of s.ledger) i fair can.owing;
           but = subst (SettledBut i) (sym books_run) (ran_settled (books_of s.ledger) i fair.eight can.but);
         }
 
   -- ---- a block was recycled
 
-  module _ (short : all_free (means s.chip) < tokens (books_of s.ledger) + (books_of s.ledger).frame.alpha) where
-    pub ready : CanRecycle (means s.chip) s.tables (books_of s.ledger).frame.alpha
-    ready = can_recycle (means s.chip) (books_of s.ledger) s.tables can.sound i fair can.owing can.but short
+  module _ (short : all_free s.chip < tokens (books_of s.ledger) + (books_of s.ledger).frame.alpha) where
+    pub ready : CanRecycle s.chip s.tables (books_of s.ledger).frame.alpha
+    ready = can_recycle s.chip (books_of s.ledger) s.tables can.sound i fair can.owing can.but short
 
-    module _ (chip : C) (chooser : H) (d : Emptied) (tables : Tables) (r : Recycled (means s.chip) s.tables (books_of s.ledger).frame.alpha d.copies d.tries (means chip) tables)
+    module _ (chip : Meaning) (chooser : H) (d : Emptied) (tables : Tables) (r : Recycled s.chip s.tables (books_of s.ledger).frame.alpha d.copies d.tries chip tables)
         (between l : Ledger) (paid : books_of between ≡ paid_for (d.tries - d.copies) (books_of s.ledger)) (made : books_of l ≡ made_one (books_of between) i) where
       owed : 0 < owes (books_of between) i
       owed = subst (λ c. 0 < owes c i) (sym paid) can.owing
@@ -111,7 +111,7 @@ module _ {C H : Type 0} (means : C → Meaning) (n i : ℕ) (k : Ticked) (s : St
       -- few pages of a block are live
       few_copies : d.copies ≤ 32
       few_copies =
-          let kinds = kinds_sum (maps_of s.tables) (page_in (means s.chip).pages) (r.block * per_block s.tables) (per_block s.tables) in
+          let kinds = kinds_sum (maps_of s.tables) (page_in s.chip.pages) (r.block * per_block s.tables) (per_block s.tables) in
           omega (arith, kinds, r.copied, s.tables.geometry.sized.3)
 
       pub small_recycle : (k.copies + d.copies < 2 ^ 32) × (k.tries + d.tries < 2 ^ 32)
@@ -120,14 +120,14 @@ module _ {C H : Type 0} (means : C → Meaning) (n i : ℕ) (k : Ticked) (s : St
         omega (arith, can.few.copies, can.few.tries, few_copies, r.failed, can.little),
       )
 
-      pub ran_recycled : Ran means n i k s (one_recycle k d) (record { chip = chip; chooser = chooser; is_open = s.is_open; ledger = l; tables = tables })
+      pub ran_recycled : Ran n i k s (one_recycle k d) (record { chip = chip; chooser = chooser; is_open = s.is_open; ledger = l; tables = tables })
       ran_recycled =
           record {
             between =
                 record {
                   sound =
-                      subst (λ b. SoundAt (means chip) b tables) (sym books_recycled)
-                      (sound_recycled (means s.chip) (books_of s.ledger) s.tables can.sound i there d.copies d.tries (means chip) tables r);
+                      subst (λ b. SoundAt chip b tables) (sym books_recycled)
+                      (sound_recycled s.chip (books_of s.ledger) s.tables can.sound i there d.copies d.tries chip tables r);
                   few =
                       record {
                         runs = omega (arith, can.few.runs);
@@ -142,10 +142,10 @@ module _ {C H : Type 0} (means : C → Meaning) (n i : ℕ) (k : Ticked) (s : St
             goes = λ b x h w. (
               erased r.block ∷ (r.answers h).0,
               subst
-                  (λ c. Walk b x i true (k.runs + 1) (k.recycles + 1) (k.copies + d.copies) (k.tries + d.tries) c (record { past = erased r.block ∷ (r.answers h).0; maps = maps_of tables; pages = (means chip).pages; start = tables.start }))
+                  (λ c. Walk b x i true (k.runs + 1) (k.recycles + 1) (k.copies + d.copies) (k.tries + d.tries) c (record { past = erased r.block ∷ (r.answers h).0; maps = maps_of tables; pages = chip.pages; start = tables.start }))
                   (sym books_recycled)
                   (runs_recycled w can.owing short
-                  (recycle_told (means s.chip) (books_of s.ledger) s.tables can.sound d.copies d.tries (means chip) tables r h)),
+                  (recycle_told s.chip (books_of s.ledger) s.tables can.sound d.copies d.tries chip tables r h)),
             );
             owing =
                 ap (λ c. owes c i + 1) (made ∙ made_one_is (books_of between) i (fair_of between) owed) ∙ owes_less (books_of between) i (fair_of between) owed ∙ ap (λ c. owes c i) paid;

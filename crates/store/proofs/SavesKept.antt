@@ -15,7 +15,7 @@ use Rattle.history.specs.Follows.{Follows}
 use Rattle.history.proofs.Asked.{keeps_permit, stored_step, save_back_step, save_refused_step}
 use Rattle.history.proofs.Follows.{save_follows}
 use Rattle.pages.specs.Tied.{maps_of}
-use Rattle.store.specs.declared.store.Store.{Store}
+use Rattle.store.specs.State.{Standing}
 use Rattle.store.specs.State.{Sound}
 use Rattle.store.specs.Effects.{and_then, asks_save, SameButBooks, Stored, Saves}
 use Rattle.store.specs.Calls.{entry_save}
@@ -69,52 +69,52 @@ not_for_range b n d e keeps = (
   (λ is. let z : true ≡ false = sym (ap hands_back is) ∙ keeps in let y : ◌≡◌ {A = ℕ} 0 1 = cc in absurd (omega arith)),
 )
 
-module _ {C H : Type 0} (means : C → Meaning) (s t : Store C H) (i n : ℕ) (d : List ℕ) where
-  pub stored_inv : (h h' : History) (tries : ℕ) → asks_save s.is_open (books_of s.ledger) i n (length d) ≡ None → Stored means s i n d tries h h' t
-      → Inv means h s → Inv means (entry_save i n d (Ok tries) ∷ h') t
+module _ {H : Type 0} (s t : Standing H) (i n : ℕ) (d : List ℕ) where
+  pub stored_inv : (h h' : History) (tries : ℕ) → asks_save s.is_open (books_of s.ledger) i n (length d) ≡ None → Stored s i n d tries h h' t
+      → Inv h s → Inv (entry_save i n d (Ok tries) ∷ h') t
   stored_inv h h' tries none e inv =
       let b = books_of s.ledger in
       let can = savable s.is_open b i n (length d) none in
       let still_open = e.is_open ∙ can.0 in
-      let here = inv_open means h s can.0 inv in
+      let here = inv_open h s can.0 inv in
       let past = did i (stored n d tries) ∷ h' in
       let seats = λ (k : ℕ). seat_of (books_of t.ledger) k in
       let step : (k : ℕ) → Step s.ledger.frame k (did i (stored n d tries)) (seat_of b k) (seats k) =
       subst (λ (c : Books). (k : ℕ) → Step s.ledger.frame k (did i (stored n d tries)) (seat_of b k) (seat_of c k)) (sym e.books)
-      (stored_step b (eight_seats means s) i n d tries can.1.permit) in
-      open_inv means past t still_open (record {
-        sound = sound_open means t still_open e.sound;
-        follows = subst (λ f. Follows f past seats (maps_of t.tables) (means t.chip).pages) (sym (ap (λ (c : Books). c.frame) e.books))
+      (stored_step b (eight_seats s) i n d tries can.1.permit) in
+      open_inv past t still_open (record {
+        sound = sound_open t still_open e.sound;
+        follows = subst (λ f. Follows f past seats (maps_of t.tables) t.chip.pages) (sym (ap (λ (c : Books). c.frame) e.books))
             (save_follows here.follows seats i n d can.1.known can.1.fits e.wrote step);
       })
 
-  module _ (h : History) (e : Refusal) (rest : SameButBooks means s t) where
+  module _ (h : History) (e : Refusal) (rest : SameButBooks s t) where
     -- with a permit or without one
     unsaved : (q : Option Refusal) → asks_return (books_of s.ledger) i ≡ q → and_then q (brings (books_of s.ledger) n (length d)) ≡ Some e → s.is_open ≡ true
-        → books_of t.ledger ≡ cond (hands_back (number e)) (returned (books_of s.ledger) i) (books_of s.ledger) → Sound means t
-        → OpenInv means h s → Inv means (refused (save i n d) (number e) ∷ h) t
+        → books_of t.ledger ≡ cond (hands_back (number e)) (returned (books_of s.ledger) i) (books_of s.ledger) → Sound t
+        → OpenInv h s → Inv (refused (save i n d) (number e) ∷ h) t
     unsaved (Some x) asks some is books sound inv =
         let b = books_of s.ledger in
         let same : x ≡ e = cc in
         let why : asks_return b i ≡ Some e = asks ∙ ap Some same in
-        let keeps = keeps_permit b (eight_seats means s) i e why in
-        call_open means h s t (refused (save i n d) (number e)) b is rest (books ∙ cond-false (hands_back (number e)) _ _ keeps) refl sound refl tt tt (not_for_range b n d e keeps)
-        (save_refused_step b (eight_seats means s) i n d e why) inv
+        let keeps = keeps_permit b (eight_seats s) i e why in
+        call_open h s t (refused (save i n d) (number e)) b is rest (books ∙ cond-false (hands_back (number e)) _ _ keeps) refl sound refl tt tt (not_for_range b n d e keeps)
+        (save_refused_step b (eight_seats s) i n d e why) inv
     unsaved None asks some is books sound inv =
         let b = books_of s.ledger in
         let sent = sent_back b n d e (ltb n b.frame.numbers) refl some in
-        call_open means h s t (refused (save i n d) (number e)) (returned b i) is rest (books ∙ ap (λ (x : Bool). cond x (returned b i) b) sent.back) refl sound refl tt tt sent.outside
-        (save_back_step b (eight_seats means s) i n d (number e) sent.back asks) inv
+        call_open h s t (refused (save i n d) (number e)) (returned b i) is rest (books ∙ ap (λ (x : Bool). cond x (returned b i) b) sent.back) refl sound refl tt tt sent.outside
+        (save_back_step b (eight_seats s) i n d (number e) sent.back asks) inv
 
     unsaved_either : (o : Bool) → s.is_open ≡ o → asks_save o (books_of s.ledger) i n (length d) ≡ Some e
-        → books_of t.ledger ≡ cond (hands_back (number e)) (returned (books_of s.ledger) i) (books_of s.ledger) → (Sound means s → Sound means t)
-        → Inv means h s → Inv means (refused (save i n d) (number e) ∷ h) t
+        → books_of t.ledger ≡ cond (hands_back (number e)) (returned (books_of s.ledger) i) (books_of s.ledger) → (Sound s → Sound t)
+        → Inv h s → Inv (refused (save i n d) (number e) ∷ h) t
     unsaved_either true is some books sound inv =
-        let here = inv_open means h s is inv in
-        unsaved (asks_return (books_of s.ledger) i) refl some is books (sound (open_sound means s is here.sound)) here
+        let here = inv_open h s is inv in
+        unsaved (asks_return (books_of s.ledger) i) refl some is books (sound (open_sound s is here.sound)) here
     unsaved_either false is some books sound inv =
         let why : NotOpen ≡ e = cc in
-        shut_call means h s t (refused (save i n d) (number e)) is rest (sym (ap number why)) inv
+        shut_call h s t (refused (save i n d) (number e)) is rest (sym (ap number why)) inv
 
-  pub no_store_inv : (h : History) (e : Refusal) → Saves means s i n d (Err e) t → Inv means h s → Inv means (entry_save i n d (Err e) ∷ h) t
+  pub no_store_inv : (h : History) (e : Refusal) → Saves s i n d (Err e) t → Inv h s → Inv (entry_save i n d (Err e) ∷ h) t
   no_store_inv h e x inv = unsaved_either h e x.1 s.is_open refl x.0 x.2 x.3 inv

@@ -25,7 +25,7 @@ use Rattle.pages.specs.Search.{over}
 use Rattle.pages.specs.Tied.{maps_of, page_in}
 use Rattle.pages.specs.Write.{CanWrite, Wrote, Writes}
 use Rattle.pages.specs.Recycle.{all_free}
-use Rattle.store.specs.declared.store.Store.{Store}
+use Rattle.store.specs.State.{Standing}
 use Rattle.store.specs.State.{paid_for, SoundAt, Sound}
 use Rattle.store.specs.Effects.{asks_page, asks_save, and_then, if_open, Saves}
 use Rattle.store.proofs.Booking.{sound_open, open_sound, sound_on, with_ledger, beside}
@@ -122,28 +122,28 @@ module _ (m m' : Meaning) (b : Books) (t t' : Tables) (i n tries : ℕ) (d : Lis
         room = omega (arith, one, few, at.room, wrote.failed, at.spare);
       }
 
-module _ {C H : Type 0} (means : C → Meaning) (s t : Store C H) (i n : ℕ) (d : List ℕ) where
-  pub saves_on : asks_save s.is_open (books_of s.ledger) i n (length d) ≡ None → Sound means s → (tries : ℕ) → (paying : Ledger) → (failed : ℕ) → failed ≡ tries - 1
-      → (CanWrite (means s.chip) s.tables None n (length d) → Wrote (means s.chip) s.tables None n d tries (means t.chip) t.tables)
+module _ {H : Type 0} (s t : Standing H) (i n : ℕ) (d : List ℕ) where
+  pub saves_on : asks_save s.is_open (books_of s.ledger) i n (length d) ≡ None → Sound s → (tries : ℕ) → (paying : Ledger) → (failed : ℕ) → failed ≡ tries - 1
+      → (CanWrite s.chip s.tables None n (length d) → Wrote s.chip s.tables None n d tries t.chip t.tables)
       → t.chooser ≡ s.chooser → t.is_open ≡ s.is_open → books_of paying ≡ paid_for failed (books_of s.ledger)
       → books_of t.ledger ≡ unless (asks_return (books_of paying) i) (spent (books_of paying) i) (books_of paying)
-      → Saves means s i n d (Ok tries) t
+      → Saves s i n d (Ok tries) t
   saves_on none sound tries paying failed is-failed writes chooser is_open paid-so made =
       let b = books_of s.ledger in
       let granted = save_granted s.is_open b i n (length d) none in
-      let o = sound_open means s granted.is sound in
-      let wrote = writes (can_store (means s.chip) b s.tables i n (length d) (fair_of s.ledger) o.at granted.out granted.known granted.fits) in
+      let o = sound_open s granted.is sound in
+      let wrote = writes (can_store s.chip b s.tables i n (length d) (fair_of s.ledger) o.at granted.out granted.known granted.fits) in
       let c = paid_for (tries - 1) b in
       let so : books_of paying ≡ c = paid-so ∙ ap (λ x. paid_for x b) is-failed in
       let fair : FairBooks c = subst FairBooks so (fair_of paying) in
       let books : books_of t.ledger ≡ spent c i =
       made ∙ ap (λ (x : Books). unless (asks_return x i) (spent x i) x) so ∙ ap (λ q. unless q (spent c i) c) granted.out in
-      let after : Sound means t =
-      open_sound means t (is_open ∙ granted.is)
+      let after : Sound t =
+      open_sound t (is_open ∙ granted.is)
       (record {
         at =
-            subst (λ (x : Books). SoundAt (means t.chip) x t.tables) (sym books)
-            (still_sound (means s.chip) (means t.chip) b s.tables t.tables i n tries d o.at granted.out granted.known wrote fair);
+            subst (λ (x : Books). SoundAt t.chip x t.tables) (sym books)
+            (still_sound s.chip t.chip b s.tables t.tables i n tries d o.at granted.out granted.known wrote fair);
         settled = subst Settled (sym books) (spent_settled c i fair.eight o.settled);
       }) in (
         none,
@@ -155,13 +155,13 @@ module _ {C H : Type 0} (means : C → Meaning) (s t : Store C H) (i n : ℕ) (d
       )
 
   -- the ways that are never taken
-  pub never_stuck : (n' : Meaning) (u : Tables) → asks_save s.is_open (books_of s.ledger) i n (length d) ≡ None → Sound means s
-      → (CanWrite (means s.chip) s.tables None n (length d) → Writes (means s.chip) s.tables None n d None n' u) → ⊥
+  pub never_stuck : (n' : Meaning) (u : Tables) → asks_save s.is_open (books_of s.ledger) i n (length d) ≡ None → Sound s
+      → (CanWrite s.chip s.tables None n (length d) → Writes s.chip s.tables None n d None n' u) → ⊥
   never_stuck n' u none sound writes =
       let b = books_of s.ledger in
       let granted = save_granted s.is_open b i n (length d) none in
-      let o = sound_open means s granted.is sound in
-      writes (can_store (means s.chip) b s.tables i n (length d) (fair_of s.ledger) o.at granted.out granted.known granted.fits)
+      let o = sound_open s granted.is sound in
+      writes (can_store s.chip b s.tables i n (length d) (fair_of s.ledger) o.at granted.out granted.known granted.fits)
 
   pub never_unpaid : asks_save s.is_open (books_of s.ledger) i n (length d) ≡ None → (paying : Ledger) (failed : ℕ) (e : Refusal) → books_of paying ≡ paid_for failed (books_of s.ledger)
       → ◌≡◌ {A = Result (Unit {0}) Refusal} (Err e) (answer (asks_return (books_of paying) i) tt) → ⊥
@@ -193,9 +193,9 @@ gives_permit true true e is = (let z : ◌≡◌ {A = ℕ} 0 1 = cc in absurd (o
 gives_permit true false e is = (let x : DataTooLong ≡ e = cc in ap (λ y. hands_back (number y)) (sym x))
 gives_permit false v e is = (let x : NoSuchNumber ≡ e = cc in ap (λ y. hands_back (number y)) (sym x))
 
-module _ {C H : Type 0} (means : C → Meaning) (s : Store C H) (i n : ℕ) (d : List ℕ) (is : s.is_open ≡ true) where
+module _ {H : Type 0} (s : Standing H) (i n : ℕ) (d : List ℕ) (is : s.is_open ≡ true) where
   -- no permit is out, and all stays
-  pub unpermitted : (e : Refusal) → ◌≡◌ {A = Result (Unit {0}) Refusal} (Err e) (answer (asks_return (books_of s.ledger) i) tt) → Saves means s i n d (Err e) s
+  pub unpermitted : (e : Refusal) → ◌≡◌ {A = Result (Unit {0}) Refusal} (Err e) (answer (asks_return (books_of s.ledger) i) tt) → Saves s i n d (Err e) s
   unpermitted e told =
       let b = books_of s.ledger in
       let why = refused_by (asks_return b i) e told in
@@ -209,16 +209,16 @@ module _ {C H : Type 0} (means : C → Meaning) (s : Store C H) (i n : ℕ) (d :
   -- number or length is out of range, and the permit goes back
   pub handed_back : (x : Unit {0}) (e : Refusal) (l : Ledger) → ◌≡◌ {A = Result (Unit {0}) Refusal} (Ok x) (answer (asks_return (books_of s.ledger) i) tt)
       → ◌≡◌ {A = Result (Unit {0}) Refusal} (Err e) (answer (asks_page (books_of s.ledger) n (length d)) tt)
-      → books_of l ≡ unless (asks_return (books_of s.ledger) i) (returned (books_of s.ledger) i) (books_of s.ledger) → Saves means s i n d (Err e) (with_ledger means s l)
+      → books_of l ≡ unless (asks_return (books_of s.ledger) i) (returned (books_of s.ledger) i) (books_of s.ledger) → Saves s i n d (Err e) (with_ledger s l)
   handed_back x e l out told made =
       let b = books_of s.ledger in
       let granted = none_by (asks_return b i) x out in
       let why = refused_by (asks_page b n (length d)) e told in
       let gives = gives_permit (ltb n b.frame.numbers) (leb (length d) b.frame.page_size) e why in (
         ap (λ o. if_open o (and_then (asks_return b i) (asks_page b n (length d)))) is ∙ ap (λ q. and_then q (asks_page b n (length d))) granted ∙ why,
-        beside means s l,
+        beside s l,
         made ∙ ap (λ q. unless q (returned b i) b) granted ∙ sym (cond-true (hands_back (number e)) (returned b i) b gives),
-        sound_on means is (beside means s l) (ap (λ (y : Books). y.frame) (made ∙ ap (λ q. unless q (returned b i) b) granted)) (ap (λ (y : Books). y.spare) (made ∙ ap (λ q. unless q (returned b i) b) granted)) (return_keeps (fair_of s.ledger) i made),
+        sound_on is (beside s l) (ap (λ (y : Books). y.frame) (made ∙ ap (λ q. unless q (returned b i) b) granted)) (ap (λ (y : Books). y.spare) (made ∙ ap (λ q. unless q (returned b i) b) granted)) (return_keeps (fair_of s.ledger) i made),
       )
 
   -- nothing is refused

@@ -11,7 +11,7 @@ use Rattle.ledger.proofs.Admits.{planned_ranged}
 use Rattle.ledger.proofs.Answered.{admit_granted}
 use Rattle.history.specs.History.{History}
 use Rattle.history.proofs.Asked.{granted_step, take_refused_step, noticed_step, notice_refused_step, handed_back_step, return_refused_step, admitted_step}
-use Rattle.store.specs.declared.store.Store.{Store}
+use Rattle.store.specs.State.{Standing}
 use Rattle.store.specs.declared.store.Permit.{Permit}
 use Rattle.store.specs.Effects.{Admits, Notices, Takes, Returns}
 use Rattle.store.specs.Calls.{entry_admit, entry_notice, entry_take, entry_return}
@@ -25,36 +25,36 @@ plan_is b i p w none =
     let same = (planned_ranged b.frame.alpha p w told.2.0 is).is in
     cc
 
-module _ {C H : Type 0} (means : C → Meaning) (h : History) (s t : Store C H) (i : ℕ) where
-  pub take_inv : (r : Result Permit Refusal) → Takes means s i r t → Inv means h s → Inv means (entry_take i r ∷ h) t
+module _ {H : Type 0} (h : History) (s t : Standing H) (i : ℕ) where
+  pub take_inv : (r : Result Permit Refusal) → Takes s i r t → Inv h s → Inv (entry_take i r ∷ h) t
   take_inv r e =
       let b = books_of s.ledger in
-      let eight = eight_seats means s in
-      booked_inv means h s t (record { seat = i }) (entry_take i) (taken b i) refl (asks_take b i) r e.0 e.1 refl
+      let eight = eight_seats s in
+      booked_inv h s t (record { seat = i }) (entry_take i) (taken b i) refl (asks_take b i) r e.0 e.1 refl
       (λ none. (record { call = refl; still = tt; answered = λ l. tt; says = λ f k. tt }, granted_step b eight i none))
       (λ x some. (record { call = refl; still = tt; answered = λ l. tt; says = λ f k. tt }, take_refused_step b eight i (number x) x some))
 
-  pub notice_inv : (r : Result (Unit {0}) Refusal) → Notices means s i r t → Inv means h s → Inv means (entry_notice i r ∷ h) t
+  pub notice_inv : (r : Result (Unit {0}) Refusal) → Notices s i r t → Inv h s → Inv (entry_notice i r ∷ h) t
   notice_inv r e =
       let b = books_of s.ledger in
-      let eight = eight_seats means s in
-      booked_inv means h s t tt (entry_notice i) (noticed b i) refl (asks_notice b i) r e.0 e.1 refl
+      let eight = eight_seats s in
+      booked_inv h s t tt (entry_notice i) (noticed b i) refl (asks_notice b i) r e.0 e.1 refl
       (λ none. (record { call = refl; still = tt; answered = λ l. tt; says = λ f k. tt }, noticed_step b eight i none))
       (λ x some. (record { call = refl; still = tt; answered = λ l. tt; says = λ f k. tt }, notice_refused_step b eight i (number x) x some))
 
-  pub return_inv : (r : Result (Unit {0}) Refusal) → Returns means s i r t → Inv means h s → Inv means (entry_return i r ∷ h) t
+  pub return_inv : (r : Result (Unit {0}) Refusal) → Returns s i r t → Inv h s → Inv (entry_return i r ∷ h) t
   return_inv r e =
       let b = books_of s.ledger in
-      let eight = eight_seats means s in
-      booked_inv means h s t tt (entry_return i) (returned b i) refl (asks_return b i) r e.0 e.1 refl
+      let eight = eight_seats s in
+      booked_inv h s t tt (entry_return i) (returned b i) refl (asks_return b i) r e.0 e.1 refl
       (λ none. (record { call = refl; still = tt; answered = λ l. tt; says = λ f k. tt }, handed_back_step b eight i none))
       (λ x some. (record { call = refl; still = tt; answered = λ l. tt; says = λ f k. tt }, return_refused_step b eight i (number x) x some))
 
-  pub admit_inv : (p w : ℕ) (r : Result Plan Refusal) → Admits means s i p w r t → Inv means h s → Inv means (entry_admit i p w r ∷ h) t
+  pub admit_inv : (p w : ℕ) (r : Result Plan Refusal) → Admits s i p w r t → Inv h s → Inv (entry_admit i p w r ∷ h) t
   admit_inv p w r e =
       let b = books_of s.ledger in
-      let eight = eight_seats means s in
+      let eight = eight_seats s in
       let plan = plan_of b.frame.alpha p w in
-      booked_inv means h s t plan (entry_admit i p w) (admitted b i plan) refl (asks_admit b i p w) r e.0 e.1 refl
+      booked_inv h s t plan (entry_admit i p w) (admitted b i plan) refl (asks_admit b i p w) r e.0 e.1 refl
       (λ none. (record { call = refl; still = tt; answered = λ l. tt; says = λ f k. tt }, admitted_step b eight i p w plan none (plan_is b i p w none)))
       (λ x some. (record { call = refl; still = tt; answered = λ l. tt; says = λ f k. tt }, (λ k. refl)))

@@ -14,7 +14,7 @@ use Rattle.ledger.proofs.Jobs.{due_within}
 use Rattle.ledger.proofs.Kept.{step_keeps, end_keeps, end_settles}
 use Rattle.ledger.proofs.Settles.{stepped_is, entered_settled}
 use Rattle.pages.specs.Write.{SameSize}
-use Rattle.store.specs.declared.store.Store.{Store}
+use Rattle.store.specs.State.{Standing}
 use Rattle.store.specs.declared.ticked.Ticked.{Ticked}
 use Rattle.store.specs.State.{SoundAt}
 use Rattle.store.specs.Tick.{Walk, unused, enters, ends}
@@ -43,29 +43,29 @@ few_more n p k m more few =
 same_size_on : (m n o : Meaning) → SameSize m n → SameSize n o → SameSize m o
 same_size_on m n o a b = record { blocks = b.blocks ∙ a.blocks; per_block = b.per_block ∙ a.per_block; page_size = b.page_size ∙ a.page_size }
 
-module _ {C H : Type 0} (means : C → Meaning) where
-  pub between_none : (n : ℕ) (k : Ticked) (s : Store C H) → SoundAt (means s.chip) (books_of s.ledger) s.tables → Few n k (means s.chip) → Between means n k s k s
+module _ {H : Type 0} where
+  pub between_none : (n : ℕ) (k : Ticked) (s : Standing H) → SoundAt s.chip (books_of s.ledger) s.tables → Few n k s.chip → Between n k s k s
   between_none n k s sound few =
       record { sound = sound; few = few; failed = omega arith; sizes = record { blocks = refl; per_block = refl; page_size = refl }; is_open = refl }
 
-  between_on : (n p : ℕ) (k l j : Ticked) (s t u : Store C H) → Between means n k s l t → Between means p l t j u → Between means p k s j u
+  between_on : (n p : ℕ) (k l j : Ticked) (s t u : Standing H) → Between n k s l t → Between p l t j u → Between p k s j u
   between_on n p k l j s t u a b =
       record {
         sound = b.sound;
         few = b.few;
         failed = omega (arith, a.failed, b.failed);
-        sizes = same_size_on (means s.chip) (means t.chip) (means u.chip) a.sizes b.sizes;
+        sizes = same_size_on s.chip t.chip u.chip a.sizes b.sizes;
         is_open = b.is_open ∙ a.is_open;
       }
 
   -- ---- the runs of one seat
 
-  pub midway_none : (n i due : ℕ) (k : Ticked) (s : Store C H) → Begun means n i k s due → Midway means n i k s 0 k s
+  pub midway_none : (n i due : ℕ) (k : Ticked) (s : Standing H) → Begun n i k s due → Midway n i k s 0 k s
   midway_none n i due k s g =
-      record { between = between_none (n + 0) k s g.sound (few_more n (n + 0) k (means s.chip) (omega arith) g.few); goes = λ b x h w. (h, w); owing = omega arith; but = g.but }
+      record { between = between_none (n + 0) k s g.sound (few_more n (n + 0) k s.chip (omega arith) g.few); goes = λ b x h w. (h, w); owing = omega arith; but = g.but }
 
-  module _ (n i due done : ℕ) (k : Ticked) (s : Store C H) (g : Begun means n i k s due) (l : Ticked) (t : Store C H) (y : Midway means n i k s done l t) (more : done < due) where
-    pub midway_can : CanRun means (n + done) i l t
+  module _ (n i due done : ℕ) (k : Ticked) (s : Standing H) (g : Begun n i k s due) (l : Ticked) (t : Standing H) (y : Midway n i k s done l t) (more : done < due) where
+    pub midway_can : CanRun (n + done) i l t
     midway_can =
         record {
           sound = y.between.sound;
@@ -75,11 +75,11 @@ module _ {C H : Type 0} (means : C → Meaning) where
           but = y.but;
         }
 
-    pub midway_more : (j : Ticked) (u : Store C H) → Ran means (n + done) i l t j u → Midway means n i k s (done + 1) j u
+    pub midway_more : (j : Ticked) (u : Standing H) → Ran (n + done) i l t j u → Midway n i k s (done + 1) j u
     midway_more j u r =
         let e : n + done + 1 ≡ n + (done + 1) = omega arith in
         record {
-          between = subst (λ p. Between means p k s j u) e (between_on (n + done) (n + done + 1) k l j s t u y.between r.between);
+          between = subst (λ p. Between p k s j u) e (between_on (n + done) (n + done + 1) k l j s t u y.between r.between);
           goes = λ b x h w. let v = y.goes b x h w in r.goes b x v.0 v.1;
           owing = omega (arith, y.owing, r.owing);
           but = r.but;
@@ -87,31 +87,31 @@ module _ {C H : Type 0} (means : C → Meaning) where
 
   -- ---- a seat
 
-  module _ (n i : ℕ) (k : Ticked) (s : Store C H) (can : CanServe means n i k s) where
+  module _ (n i : ℕ) (k : Ticked) (s : Standing H) (can : CanServe n i k s) where
     -- an empty seat is passed
     pub served_unused : (c : Ledger) → used_seat (books_of s.ledger) i ≡ false → books_of c ≡ books_of s.ledger
-        → Served means n i k s k (record { chip = s.chip; chooser = s.chooser; is_open = s.is_open; ledger = c; tables = s.tables })
+        → Served n i k s k (record { chip = s.chip; chooser = s.chooser; is_open = s.is_open; ledger = c; tables = s.tables })
     served_unused c none same =
         record {
           between =
               record {
-                sound = subst (λ b. SoundAt (means s.chip) b s.tables) (sym same) can.sound;
-                few = few_more n (n + 1024) k (means s.chip) (omega arith) can.few;
+                sound = subst (λ b. SoundAt s.chip b s.tables) (sym same) can.sound;
+                few = few_more n (n + 1024) k s.chip (omega arith) can.few;
                 failed = omega arith;
                 sizes = record { blocks = refl; per_block = refl; page_size = refl };
                 is_open = refl;
               };
-          goes = λ b x h w. (h, subst (λ a. Walk b x (i + 1) false k.runs k.recycles k.copies k.tries a (desk_of means h s)) (sym same) (unused w none));
+          goes = λ b x h w. (h, subst (λ a. Walk b x (i + 1) false k.runs k.recycles k.copies k.tries a (desk_of h s)) (sym same) (unused w none));
           settled = subst Settled (sym same) can.settled;
         }
 
     -- a seat in use: entered, its runs made, and ended
     module _ (e : Ledger) (used : used_seat (books_of s.ledger) i ≡ true) (enter : books_of e ≡ entered (books_of s.ledger) i) where
-      abbrev pub at_seat : Store C H
+      abbrev pub at_seat : Standing H
       at_seat = record { chip = s.chip; chooser = s.chooser; is_open = s.is_open; ledger = e; tables = s.tables }
 
-      pub served_used : (due : ℕ) (l : Ticked) (t : Store C H) (c : Ledger) → Begun means n i k at_seat due → Midway means n i k at_seat due l t → books_of c ≡ ended (books_of t.ledger) i
-          → Served means n i k s l (record { chip = t.chip; chooser = t.chooser; is_open = t.is_open; ledger = c; tables = t.tables })
+      pub served_used : (due : ℕ) (l : Ticked) (t : Standing H) (c : Ledger) → Begun n i k at_seat due → Midway n i k at_seat due l t → books_of c ≡ ended (books_of t.ledger) i
+          → Served n i k s l (record { chip = t.chip; chooser = t.chooser; is_open = t.is_open; ledger = c; tables = t.tables })
       served_used due l t c g y close =
           let none : owes (books_of t.ledger) i ≡ 0 = omega (arith, y.owing, g.owing) in
           let fair = fair_of t.ledger in
@@ -119,34 +119,34 @@ module _ {C H : Type 0} (means : C → Meaning) where
             between =
                 record {
                   sound =
-                      sound_with (means t.chip) (books_of t.ledger) (books_of c) t.tables y.between.sound (ap (λ a. a.frame) close) (ap (λ a. a.spare) close)
+                      sound_with t.chip (books_of t.ledger) (books_of c) t.tables y.between.sound (ap (λ a. a.frame) close) (ap (λ a. a.spare) close)
                       (end_keeps fair i close none);
-                  few = few_more (n + due) (n + 1024) l (means t.chip) (omega (arith, g.some)) y.between.few;
+                  few = few_more (n + due) (n + 1024) l t.chip (omega (arith, g.some)) y.between.few;
                   failed = y.between.failed;
                   sizes = y.between.sizes;
                   is_open = y.between.is_open;
                 };
             goes = λ b x h w.
-                let v = y.goes b x h (subst (λ a. Walk b x i true k.runs k.recycles k.copies k.tries a (desk_of means h s)) (sym enter) (enters w used)) in
-                (v.0, subst (λ a. Walk b x (i + 1) false l.runs l.recycles l.copies l.tries a (desk_of means v.0 t)) (sym close) (ends v.1 none));
+                let v = y.goes b x h (subst (λ a. Walk b x i true k.runs k.recycles k.copies k.tries a (desk_of h s)) (sym enter) (enters w used)) in
+                (v.0, subst (λ a. Walk b x (i + 1) false l.runs l.recycles l.copies l.tries a (desk_of v.0 t)) (sym close) (ends v.1 none));
             settled = end_settles fair i close can.seat none y.but;
           }
 
   -- ---- the seats of a tick
 
-  pub walked_none : (k : Ticked) (s : Store C H) → SoundAt (means s.chip) (books_of s.ledger) s.tables → Settled (books_of s.ledger) → Few 0 k (means s.chip) → Walked means k s 0 k s
+  pub walked_none : (k : Ticked) (s : Standing H) → SoundAt s.chip (books_of s.ledger) s.tables → Settled (books_of s.ledger) → Few 0 k s.chip → Walked k s 0 k s
   walked_none k s sound settled few =
-      record { between = between_none (1024 * 0) k s sound (few_more 0 (1024 * 0) k (means s.chip) (omega arith) few); goes = λ b x h w. (h, w); settled = settled }
+      record { between = between_none (1024 * 0) k s sound (few_more 0 (1024 * 0) k s.chip (omega arith) few); goes = λ b x h w. (h, w); settled = settled }
 
-  module _ (k : Ticked) (s : Store C H) (done : ℕ) (l : Ticked) (t : Store C H) (y : Walked means k s done l t) (more : done < 8) where
-    pub walked_can : CanServe means (1024 * done) done l t
+  module _ (k : Ticked) (s : Standing H) (done : ℕ) (l : Ticked) (t : Standing H) (y : Walked k s done l t) (more : done < 8) where
+    pub walked_can : CanServe (1024 * done) done l t
     walked_can = record { sound = y.between.sound; few = y.between.few; little = omega arith; seat = more; settled = y.settled }
 
-    pub walked_more : (j : Ticked) (u : Store C H) → Served means (1024 * done) done l t j u → Walked means k s (done + 1) j u
+    pub walked_more : (j : Ticked) (u : Standing H) → Served (1024 * done) done l t j u → Walked k s (done + 1) j u
     walked_more j u r =
         let e : 1024 * done + 1024 ≡ 1024 * (done + 1) = omega arith in
         record {
-          between = subst (λ p. Between means p k s j u) e (between_on (1024 * done) (1024 * done + 1024) k l j s t u y.between r.between);
+          between = subst (λ p. Between p k s j u) e (between_on (1024 * done) (1024 * done + 1024) k l j s t u y.between r.between);
           goes = λ b x h w. let v = y.goes b x h w in r.goes b x v.0 v.1;
           settled = r.settled;
         }
@@ -154,7 +154,7 @@ module _ {C H : Type 0} (means : C → Meaning) where
 -- ---- where a seat begins
 
 -- a seat in use was entered
-module _ {C H : Type 0} (means : C → Meaning) (n i : ℕ) (k : Ticked) (s : Store C H) (can : CanServe means n i k s) (e : Ledger) (used : used_seat (books_of s.ledger) i ≡ true)
+module _ {H : Type 0} (n i : ℕ) (k : Ticked) (s : Standing H) (can : CanServe n i k s) (e : Ledger) (used : used_seat (books_of s.ledger) i ≡ true)
     (step : books_of e ≡ stepped (books_of s.ledger) i) where
   pub entered_so : books_of e ≡ entered (books_of s.ledger) i
   entered_so = step ∙ stepped_is (books_of s.ledger) i can.settled used
@@ -167,11 +167,11 @@ module _ {C H : Type 0} (means : C → Meaning) (n i : ℕ) (k : Ticked) (s : St
         | inr none ↦ (let o = cond-false (used_seat (books_of e) i) (due (seat_of (books_of e) i) - (seat_of (books_of e) i).runs) 0 none in omega (arith, o))
       ]
 
-  pub begun_so : (owed : ℕ) → owed ≡ owes (books_of e) i → Begun means n i k (record { chip = s.chip; chooser = s.chooser; is_open = s.is_open; ledger = e; tables = s.tables }) owed
+  pub begun_so : (owed : ℕ) → owed ≡ owes (books_of e) i → Begun n i k (record { chip = s.chip; chooser = s.chooser; is_open = s.is_open; ledger = e; tables = s.tables }) owed
   begun_so owed is =
       record {
         sound =
-            sound_with (means s.chip) (books_of s.ledger) (books_of e) s.tables can.sound (ap (λ a. a.frame) entered_so) (ap (λ a. a.spare) entered_so)
+            sound_with s.chip (books_of s.ledger) (books_of e) s.tables can.sound (ap (λ a. a.frame) entered_so) (ap (λ a. a.spare) entered_so)
             (omega (arith, step_keeps (fair_of s.ledger) i step));
         few = can.few;
         little = can.little;

@@ -48,7 +48,7 @@ use Rattle.pages.specs.declared.tables.Tables.{Tables}
 use Rattle.pages.specs.Search.{over}
 use Rattle.pages.specs.Tied.{maps_of}
 use Rattle.pages.specs.Write.{SameSize}
-use Rattle.store.specs.declared.store.Store.{Store}
+use Rattle.store.specs.State.{Standing}
 use Rattle.store.specs.declared.store.Permit.{Permit}
 use Rattle.store.specs.declared.ticked.Ticked.{Ticked}
 use Rattle.store.specs.State.{frame_for, paid_for, Sound}
@@ -114,102 +114,102 @@ pub record FreshTables (m : Meaning) (t : Tables) : Type 0 where
   pub blocks : t.geometry.blocks ≡ m.blocks
   pub per_block : t.geometry.pages_per_block ≡ m.per_block
 
-module _ {C H : Type 0} (means : C → Meaning) where
+module _ {H : Type 0} where
   -- the store as a tick and a history see it
-  abbrev pub desk_of : History → Store C H → Desk
-  desk_of h s = record { past = h; maps = maps_of s.tables; pages = (means s.chip).pages; start = s.tables.start }
+  abbrev pub desk_of : History → Standing H → Desk
+  desk_of h s = record { past = h; maps = maps_of s.tables; pages = s.chip.pages; start = s.tables.start }
 
-  pub record SameButBooks (s t : Store C H) : Type 0 where
-    pub chip : means t.chip ≡ means s.chip
+  pub record SameButBooks (s t : Standing H) : Type 0 where
+    pub chip : t.chip ≡ s.chip
     pub chooser : t.chooser ≡ s.chooser
     pub is_open : t.is_open ≡ s.is_open
     pub tables : t.tables ≡ s.tables
 
   -- nothing has changed
-  pub record Same (s t : Store C H) : Type 0 where
+  pub record Same (s t : Standing H) : Type 0 where
     pub rest : SameButBooks s t
     pub ledger : t.ledger ≡ s.ledger
 
   -- ---- open
 
-  pub record Opened (s : Store C H) (numbers alpha pool : ℕ) (t : Store C H) : Type 0 where
-    pub chip : means t.chip ≡ blank (means s.chip)
+  pub record Opened (s : Standing H) (numbers alpha pool : ℕ) (t : Standing H) : Type 0 where
+    pub chip : t.chip ≡ blank s.chip
     pub chooser : t.chooser ≡ s.chooser
     pub is_open : t.is_open ≡ true
-    pub books : books_of t.ledger ≡ opened_books (frame_for (means s.chip) numbers alpha pool)
-    pub tables : FreshTables (means s.chip) t.tables
+    pub books : books_of t.ledger ≡ opened_books (frame_for s.chip numbers alpha pool)
+    pub tables : FreshTables s.chip t.tables
 
-  abbrev pub Opens : Store C H → ℕ → ℕ → ℕ → Result (Unit {0}) Refusal → Store C H → Type 0
-  Opens s numbers alpha pool (Ok u) t = (asks_open s.is_open (means s.chip) numbers alpha pool ≡ None) × Opened s numbers alpha pool t × Sound means t
-  Opens s numbers alpha pool (Err e) t = (asks_open s.is_open (means s.chip) numbers alpha pool ≡ Some e) × Same s t
+  abbrev pub Opens : Standing H → ℕ → ℕ → ℕ → Result (Unit {0}) Refusal → Standing H → Type 0
+  Opens s numbers alpha pool (Ok u) t = (asks_open s.is_open s.chip numbers alpha pool ≡ None) × Opened s numbers alpha pool t × Sound t
+  Opens s numbers alpha pool (Err e) t = (asks_open s.is_open s.chip numbers alpha pool ≡ Some e) × Same s t
 
   -- ---- seats
 
-  abbrev pub ledger_asks : Store C H → Option Refusal → Option Refusal
+  abbrev pub ledger_asks : Standing H → Option Refusal → Option Refusal
   ledger_asks s question = if_open s.is_open question
 
   -- a call on the ledger alone: what it makes of the books where nothing is refused
-  pub record Booked (s : Store C H) (question : Option Refusal) (after : Books) (t : Store C H) : Type 0 where
+  pub record Booked (s : Standing H) (question : Option Refusal) (after : Books) (t : Standing H) : Type 0 where
     pub rest : SameButBooks s t
     pub books : books_of t.ledger ≡ unless (ledger_asks s question) after (books_of s.ledger)
-    pub sound : Sound means s → Sound means t
+    pub sound : Sound s → Sound t
 
-  abbrev pub Admits : Store C H → ℕ → ℕ → ℕ → Result Plan Refusal → Store C H → Type 0
+  abbrev pub Admits : Standing H → ℕ → ℕ → ℕ → Result Plan Refusal → Standing H → Type 0
   Admits s i p w r t =
       let b = books_of s.ledger in
       let plan = plan_of b.frame.alpha p w in
       (r ≡ answer (ledger_asks s (asks_admit b i p w)) plan) × Booked s (asks_admit b i p w) (admitted b i plan) t
 
-  abbrev pub Notices : Store C H → ℕ → Result (Unit {0}) Refusal → Store C H → Type 0
+  abbrev pub Notices : Standing H → ℕ → Result (Unit {0}) Refusal → Standing H → Type 0
   Notices s i r t = let b = books_of s.ledger in (r ≡ answer (ledger_asks s (asks_notice b i)) tt) × Booked s (asks_notice b i) (noticed b i) t
 
   -- a permit carries its seat's number
-  abbrev pub Takes : Store C H → ℕ → Result Permit Refusal → Store C H → Type 0
+  abbrev pub Takes : Standing H → ℕ → Result Permit Refusal → Standing H → Type 0
   Takes s i r t = let b = books_of s.ledger in (r ≡ answer (ledger_asks s (asks_take b i)) (record { seat = i })) × Booked s (asks_take b i) (taken b i) t
 
-  abbrev pub Returns : Store C H → ℕ → Result (Unit {0}) Refusal → Store C H → Type 0
+  abbrev pub Returns : Standing H → ℕ → Result (Unit {0}) Refusal → Standing H → Type 0
   Returns s i r t = let b = books_of s.ledger in (r ≡ answer (ledger_asks s (asks_return b i)) tt) × Booked s (asks_return b i) (returned b i) t
 
   -- ---- save
 
   -- the page is written by so many tries, the spare account pays for all but the last, and the seat pays for that one
-  pub record Stored (s : Store C H) (i n : ℕ) (d : List ℕ) (tries : ℕ) (h h' : History) (t : Store C H) : Type 0 where
+  pub record Stored (s : Standing H) (i n : ℕ) (d : List ℕ) (tries : ℕ) (h h' : History) (t : Standing H) : Type 0 where
     pub chooser : t.chooser ≡ s.chooser
     pub is_open : t.is_open ≡ s.is_open
     pub books : books_of t.ledger ≡ spent (paid_for (tries - 1) (books_of s.ledger)) i
-    pub failed : (means t.chip).allowance + tries ≡ (means s.chip).allowance + 1
-    pub sizes : SameSize (means s.chip) (means t.chip)
+    pub failed : t.chip.allowance + tries ≡ s.chip.allowance + 1
+    pub sizes : SameSize s.chip t.chip
     pub wrote :
-        Written (over s.tables.geometry.pages_per_block None) n d tries h (maps_of s.tables) (means s.chip).pages s.tables.start h' (maps_of t.tables) (means t.chip).pages t.tables.start
-    pub sound : Sound means t
+        Written (over s.tables.geometry.pages_per_block None) n d tries h (maps_of s.tables) s.chip.pages s.tables.start h' (maps_of t.tables) t.chip.pages t.tables.start
+    pub sound : Sound t
 
   -- for every history before there is one after, which has the chip's answers
-  abbrev pub Saves : Store C H → ℕ → ℕ → List ℕ → Result ℕ Refusal → Store C H → Type 0
+  abbrev pub Saves : Standing H → ℕ → ℕ → List ℕ → Result ℕ Refusal → Standing H → Type 0
   Saves s i n d (Ok tries) t =
       (asks_save s.is_open (books_of s.ledger) i n (length d) ≡ None) × ((h : History) → ((h' : History) × Stored s i n d tries h h' t))
   Saves s i n d (Err e) t =
       (asks_save s.is_open (books_of s.ledger) i n (length d) ≡ Some e)
       × SameButBooks s t
       × (books_of t.ledger ≡ cond (hands_back (number e)) (returned (books_of s.ledger) i) (books_of s.ledger))
-      × (Sound means s → Sound means t)
+      × (Sound s → Sound t)
 
   -- ---- read
 
-  abbrev pub Reads : Store C H → ℕ → List ℕ → Result ℕ Refusal → Store C H → List ℕ → Type 0
+  abbrev pub Reads : Standing H → ℕ → List ℕ → Result ℕ Refusal → Standing H → List ℕ → Type 0
   Reads s n before r t after =
-      let stored = stored_at (means s.chip) (maps_of s.tables n) in
+      let stored = stored_at s.chip (maps_of s.tables n) in
       (r ≡ read_told s.is_open (books_of s.ledger) n stored (length before)) × (after ≡ read_into r stored before) × Same s t
 
   -- ---- tick
 
-  pub record Passed (s : Store C H) (k : Ticked) (h h' : History) (t : Store C H) : Type 0 where
+  pub record Passed (s : Standing H) (k : Ticked) (h h' : History) (t : Standing H) : Type 0 where
     pub open_before : s.is_open ≡ true
     pub is_open : t.is_open ≡ true
-    pub failed : (means t.chip).allowance + k.tries ≡ (means s.chip).allowance + k.copies
-    pub sizes : SameSize (means s.chip) (means t.chip)
+    pub failed : t.chip.allowance + k.tries ≡ s.chip.allowance + k.copies
+    pub sizes : SameSize s.chip t.chip
     pub walk : Walk (books_of s.ledger) (desk_of h s) 8 false k.runs k.recycles k.copies k.tries (books_of t.ledger) (desk_of h' t)
-    pub sound : Sound means t
+    pub sound : Sound t
 
-  abbrev pub Ticks : Store C H → Result Ticked Refusal → Store C H → Type 0
+  abbrev pub Ticks : Standing H → Result Ticked Refusal → Standing H → Type 0
   Ticks s (Ok k) t = (h : History) → ((h' : History) × Passed s k h h' t)
   Ticks s (Err e) t = (s.is_open ≡ false) × (e ≡ NotOpen) × Same s t

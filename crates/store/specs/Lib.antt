@@ -3,3 +3,4 @@ pub mod Tick
 pub mod Effects
 pub mod Calls
 pub mod Walking
+pub mod Seen

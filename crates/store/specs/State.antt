@@ -4,11 +4,22 @@
 -- paid_for      the spare account has paid for so many failed tries
 -- SoundAt       tables, ledger and chip of an open store belong together, and every token has a free page: this is
 --               true inside a tick too
+-- Standing      what a store is: what its chip means, its chooser, and whether it is open, with its ledger and its tables
+-- standing      the same of a store's parts; one that is shut has no tokens, and maps nothing
 -- Sound         a store is shut, or open with all of that and with settled seats
+-- sound_prop    that there is one proof of this at most
 -- view_of       what can be seen of a store: its map, its chip's pages, and account and charge of each seat
-use Rattle.std.specs.Prelude.{◌≡◌, ℕ, ◌-◌, ◌<◌, ◌≤◌, Some, MatchBool}
-use Rattle.chip.specs.Meaning.{Meaning}
+use Rattle.std.specs.Prelude.{◌≡◌, ℕ, ◌-◌, ◌<◌, ◌≤◌, Bool, true, false, List, length, replicate, Some, None, Option, MatchBool, refl}
+use Rattle.std.specs.Coded.{Unit-prop}
+use Rattle.std.proofs.Common.{arith, sym, ◌∙◌}
+use Rattle.std.proofs.Props.{props}
+use mathlib.Core.HLevel.{Σ_prop_path}
+use Rattle.chip.specs.Meaning.{Page, written, Meaning}
 use Rattle.ledger.specs.declared.frame.Frame.{Frame}
+use Rattle.ledger.specs.declared.ledger.Ledger.{Ledger}
+use Rattle.ledger.specs.Seats.{nobody}
+use Rattle.ledger.specs.Fair.{idle}
+use Rattle.ledger.proofs.Opens.{opens}
 use Rattle.ledger.specs.Books.{Books, seat_of, tokens}
 use Rattle.ledger.specs.Of.{books_of}
 use Rattle.ledger.specs.Settled.{Settled}
@@ -16,7 +27,7 @@ use Rattle.history.specs.Promise.{View}
 use Rattle.pages.specs.declared.tables.Tables.{Tables}
 use Rattle.pages.specs.Tied.{maps_of, Tied}
 use Rattle.pages.specs.Recycle.{all_free, SameBlocks}
-use Rattle.store.specs.declared.store.Store.{Store}
+use Rattle.store.specs.declared.open.Open.{Open}
 
 abbrev pub frame_for : Meaning → ℕ → ℕ → ℕ → Frame
 frame_for m numbers alpha pool =
@@ -46,19 +57,54 @@ pub record SoundAt (m : Meaning) (b : Books) (t : Tables) : Type 0 where
   -- every token has a free page
   pub room : tokens b ≤ all_free m
 
-module _ {C H : Type 0} (means : C → Meaning) where
-  pub record OpenSound (s : Store C H) : Type 0 where
-    pub at : SoundAt (means s.chip) (books_of s.ledger) s.tables
+pub record Standing (H : Type 0) : Type 0 where
+  pub chip : Meaning
+  pub chooser : H
+  pub is_open : Bool
+  pub ledger : Ledger
+  pub tables : Tables
+
+pub no_ledger : Ledger
+no_ledger = record { seats = replicate 8 nobody; pool = 0; spare = 0; frame = idle; fair = ∣ opens idle nobody refl refl ∣₁ }
+
+pub no_tables : Tables
+no_tables =
+    record {
+      map = replicate 1920 None;
+      dead = replicate 64 0;
+      free = 4;
+      start = 0;
+      geometry = record { blocks = 2; pages_per_block = 2; sized = (omega arith, omega arith, omega arith, omega arith) };
+    }
+
+abbrev pub standing : {H : Type 0} → Meaning → H → Option Open → Standing H
+standing m c None = record { chip = m; chooser = c; is_open = false; ledger = no_ledger; tables = no_tables }
+standing m c (Some o) = record { chip = m; chooser = c; is_open = true; ledger = o.ledger; tables = o.tables }
+
+module _ {H : Type 0} where
+  pub record OpenSound (s : Standing H) : Type 0 where
+    pub at : SoundAt s.chip (books_of s.ledger) s.tables
     pub settled : Settled (books_of s.ledger)
 
-  abbrev pub Sound : Store C H → Type 0
+  abbrev pub Sound : Standing H → Type 0
   Sound s = MatchBool s.is_open (OpenSound s) (Unit {0})
 
-  abbrev pub view_of : Store C H → View
+  abbrev pub view_of : Standing H → View
   view_of s =
       record {
         maps = maps_of s.tables;
-        pages = (means s.chip).pages;
+        pages = s.chip.pages;
         account = λ i. (seat_of (books_of s.ledger) i).account;
         charge = λ i. (seat_of (books_of s.ledger) i).charge;
       }
+
+-- a page that is written is written in one way
+written_prop : (p : Page) (l most : ℕ) → IsProp ((d : List ℕ) × (p ≡ written l d) × (length d ≤ most))
+written_prop p l most x y =
+    let same : written l x.0 ≡ written l y.0 = sym x.1.0 ∙ y.1.0 in
+    let bytes : x.0 ≡ y.0 = cc in
+    Σ_prop_path (λ d. Prim.hlevel props) bytes
+
+pub sound_prop : {H : Type 0} (m : Meaning) (c : H) (o : Option Open) → IsProp (Sound (standing m c o))
+sound_prop m c None = Unit-prop
+sound_prop m c (Some o) = Prim.hlevel (props, written_prop)

@@ -1,7 +1,8 @@
 // The store: seats, permits, saves and a collector on the clock, over any chip and any chooser.
+// Each of the eight calls has its own effect, and the promise over every history of calls that led to it.
 #![tactic(auto)]
 
-mod calls;
+mod open;
 mod opening;
 mod reads;
 mod saves;

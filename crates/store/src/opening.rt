@@ -1,11 +1,15 @@
 // Putting a store together, and opening it.
-ghost use Rattle.std.specs.Prelude.{◌≡◌, false};
+ghost use Rattle.std.specs.Prelude.{◌≡◌, [], None};
 ghost use Rattle.chip.specs.Meaning.{Meaning};
 ghost use Rattle.chip.specs.Calls.{shape_of};
 ghost use Rattle.ledger.specs.Books.{answer};
+ghost use Rattle.history.specs.History.{History};
 ghost use Rattle.store.specs.State.{frame_for};
+ghost use Rattle.store.specs.Seen.{seen};
 ghost use Rattle.store.specs.Effects.{asks_frame, blank, FreshTables, Opens};
+ghost use Rattle.store.specs.Calls.{Run, Entered, entry_open};
 
+use crate::open::Open;
 use crate::store::Store;
 use chip::{Chip, Shape};
 use chooser::Chooser;
@@ -80,33 +84,29 @@ fn fresh_tables(geometry: Geometry) -> Tables
 }
 
 impl<C: Chip, H: Chooser> Store<C, H> {
-    // A store over this chip and this chooser, which is shut.
-    pub(crate) fn put_together(chip: C, chooser: H) -> Store<C, H>
+    // A store is put together from any chip and any chooser, and is shut.
+    pub fn new(chip: C, chooser: H) -> Store<C, H>
+        ensures shut { result.opened ≡ None }
         ensures chip { result.chip ≡ chip }
         ensures chooser { result.chooser ≡ chooser }
-        ensures shut { result.is_open ≡ false }
+        ensures run { Run [] (seen result) }
     {
         Store {
             chip,
             chooser,
-            is_open: false,
-            ledger: Ledger::idle(),
-            tables: fresh_tables(Geometry {
-                blocks: 2,
-                pages_per_block: 2,
-            }),
+            opened: None,
         }
     }
 
-    // Opens a shut store: every block is erased, and no seat is in use.
-    pub(crate) fn open_inner(&mut self, numbers: u32, alpha: u32, pool: u32) -> Result<(), Refusal>
-        ensures { Opens C.Chip.means self.old numbers alpha pool result self.new }
+    // Opens the store: erases every block, and offers `numbers` page numbers over a pool of tokens. A run of the
+    // collector wins back `alpha` pages.
+    pub fn open(&mut self, numbers: u32, alpha: u32, pool: u32) -> Result<(), Refusal>
+        ensures effect { Opens (seen self.old) numbers alpha pool result (seen self.new) }
+        ensures promise { (h : History) → Run h (seen self.old) → Entered (entry_open numbers alpha pool result) h (seen self.new) }
     {
         let shape = self.chip.shape();
         let frame = framed(shape, numbers, alpha, pool);
-        if let Err(refusal) = may_open(self.is_open, frame) {
-            return Err(refusal);
-        }
+        may_open(self.opened.is_some(), frame)?;
         let Some(ledger) = Ledger::opened(frame) else {
             return Err(Refusal::TablesDisagree);
         };
@@ -115,9 +115,10 @@ impl<C: Chip, H: Chooser> Store<C, H> {
             pages_per_block: shape.pages_per_block,
         };
         erase_all(&mut self.chip, shape.blocks);
-        self.ledger = ledger;
-        self.tables = fresh_tables(geometry);
-        self.is_open = true;
+        self.opened = Some(Open {
+            ledger,
+            tables: fresh_tables(geometry),
+        });
         Ok(())
     }
 }

@@ -1,8 +1,10 @@
 // Reading a page back.
-ghost use Rattle.std.specs.Prelude.{◌≡◌, ◌<◌};
+ghost use Rattle.std.specs.Prelude.{◌≡◌, ◌<◌, length};
+ghost use Rattle.history.specs.History.{History};
 ghost use Rattle.pages.specs.Tied.{maps_of};
-ghost use Rattle.store.specs.State.{Sound};
+ghost use Rattle.store.specs.Seen.{seen};
 ghost use Rattle.store.specs.Effects.{Reads};
+ghost use Rattle.store.specs.Calls.{Run, Entered, entry_read, bytes_read};
 
 use crate::store::Store;
 use chip::Chip;
@@ -14,31 +16,27 @@ use pages::Tables;
 fn page_of(tables: &Tables, number: u16) -> Option<u16>
     ensures { number < 1920 → result ≡ maps_of tables.now number }
 {
-    let index = number as usize;
-    if index >= 1920 {
-        return None;
-    }
-    tables.map[index]
+    *tables.map.get(number as usize)?
 }
 
 impl<C: Chip, H: Chooser> Store<C, H> {
-    // Copies the bytes that stand under a page number to the front of the buffer, and answers how many they are.
-    pub(crate) fn read_inner(&mut self, number: u16, buffer: &mut [u8]) -> Result<usize, Refusal>
-        ensures { Sound C.Chip.means self.old → Reads C.Chip.means self.old number buffer.old result self.new buffer.new }
+    // Reads what was saved last under a page number into the front of the buffer, and answers its length.
+    pub fn read(&mut self, number: u16, buffer: &mut [u8]) -> Result<usize, Refusal>
+        ensures effect { Reads (seen self.old) number buffer.old result (seen self.new) buffer.new }
+        ensures promise { (h : History) → Run h (seen self.old) → Entered (entry_read number (length buffer.old) (bytes_read result buffer.new) result) h (seen self.new) }
     {
-        if !self.is_open {
+        let Some(open) = &self.opened else {
             return Err(Refusal::NotOpen);
-        }
-        let frame = self.ledger.frame();
-        if u32::from(number) >= frame.numbers {
+        };
+        if u32::from(number) >= open.ledger.frame().numbers {
             return Err(Refusal::NoSuchNumber);
         }
-        let Some(page) = page_of(&self.tables, number) else {
+        let Some(page) = page_of(&open.tables, number) else {
             return Err(Refusal::NothingStored);
         };
-        match self.chip.fetch(page, buffer) {
-            Ok((_, length)) => Ok(length),
-            Err(_) => Err(Refusal::BufferTooShort),
-        }
+        let Ok((_, length)) = self.chip.fetch(page, buffer) else {
+            return Err(Refusal::BufferTooShort);
+        };
+        Ok(length)
     }
 }

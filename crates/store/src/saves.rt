@@ -1,10 +1,14 @@
 // Saving a page.
-ghost use Rattle.std.specs.Prelude.{◌≡◌, length, None};
+ghost use Rattle.std.specs.Prelude.{◌≡◌, length};
 ghost use Rattle.ledger.specs.Books.{answer};
 ghost use Rattle.ledger.specs.Of.{books_of};
-ghost use Rattle.store.specs.State.{paid_for, Sound};
-ghost use Rattle.store.specs.Effects.{asks_page, asks_save, Saves};
+ghost use Rattle.history.specs.History.{History};
+ghost use Rattle.store.specs.State.{paid_for};
+ghost use Rattle.store.specs.Seen.{seen};
+ghost use Rattle.store.specs.Effects.{asks_page, Saves};
+ghost use Rattle.store.specs.Calls.{Run, Entered, entry_save};
 
+use crate::open::Open;
 use crate::store::{Permit, Store};
 use chip::Chip;
 use chooser::Chooser;
@@ -19,7 +23,7 @@ pub(crate) fn pay_for(ledger: &mut Ledger, failed: u32)
     }
 }
 
-impl<C: Chip, H: Chooser> Store<C, H> {
+impl Open {
     // Are page number and length in range?
     fn takes_page(&self, number: u16, size: usize) -> Result<(), Refusal>
         ensures { result ≡ answer (asks_page (books_of self.now.ledger) number size) tt }
@@ -33,41 +37,27 @@ impl<C: Chip, H: Chooser> Store<C, H> {
         }
         Ok(())
     }
+}
 
-    // Writes a page that nothing refuses: the spare account pays for its failed tries, the seat for the good one.
-    fn put_page(&mut self, seat: u8, number: u16, bytes: &[u8]) -> Result<u32, Refusal>
-        ensures { asks_save self.old.is_open (books_of self.old.ledger) seat number (length bytes.now) ≡ None → Sound C.Chip.means self.old → Saves C.Chip.means self.old seat number bytes.now result self.new }
-    {
-        let tries = match self.tables.write(&mut self.chip, number, bytes, None) {
-            Some(tries) => tries,
-            None => return Err(Refusal::TablesDisagree),
-        };
-        pay_for(&mut self.ledger, tries.saturating_sub(1));
-        match self.ledger.spend(seat) {
-            Ok(_) => Ok(tries),
-            Err(_) => Err(Refusal::TablesDisagree),
-        }
-    }
-
-    pub(crate) fn save_inner(
-        &mut self,
-        permit: Permit,
-        number: u16,
-        bytes: &[u8],
-    ) -> Result<u32, Refusal>
-        ensures { Sound C.Chip.means self.old → Saves C.Chip.means self.old permit.seat number bytes.now result self.new }
+impl<C: Chip, H: Chooser> Store<C, H> {
+    // Saves bytes under a page number, and answers how many tries that took: the spare account pays for the failed
+    // ones, the seat for the good one. The permit is spent whatever the answer.
+    pub fn save(&mut self, permit: Permit, number: u16, bytes: &[u8]) -> Result<u32, Refusal>
+        ensures effect { Saves (seen self.old) permit.seat number bytes.now result (seen self.new) }
+        ensures promise { (h : History) → Run h (seen self.old) → Entered (entry_save permit.seat number bytes.now result) h (seen self.new) }
     {
         let Permit { seat } = permit;
-        if !self.is_open {
+        let Some(open) = &mut self.opened else {
             return Err(Refusal::NotOpen);
-        }
-        if let Err(refusal) = self.ledger.may_spend(seat) {
+        };
+        open.ledger.may_spend(seat)?;
+        if let Err(refusal) = open.takes_page(number, bytes.len()) {
+            let _ = open.ledger.hand_back(seat);
             return Err(refusal);
         }
-        if let Err(refusal) = self.takes_page(number, bytes.len()) {
-            let _ = self.ledger.hand_back(seat);
-            return Err(refusal);
-        }
-        self.put_page(seat, number, bytes)
+        let tries = open.tables.write(&mut self.chip, number, bytes, None)?;
+        pay_for(&mut open.ledger, tries.saturating_sub(1));
+        open.ledger.spend(seat)?;
+        Ok(tries)
     }
 }

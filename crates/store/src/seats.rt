@@ -1,55 +1,60 @@
 // The calls on one seat: a question of the store, and then the ledger's call.
+ghost use Rattle.std.specs.Prelude.{◌≡◌};
+ghost use Rattle.history.specs.History.{History};
+ghost use Rattle.store.specs.Seen.{seen};
 ghost use Rattle.store.specs.Effects.{Admits, Notices, Takes, Returns};
+ghost use Rattle.store.specs.Calls.{Run, Entered, entry_admit, entry_notice, entry_take, entry_return};
 
 use crate::store::{Permit, Store};
 use chip::Chip;
 use chooser::Chooser;
 use ledger::Refusal;
-use plan::Plan;
+use plan::{Job, Plan};
 
 impl<C: Chip, H: Chooser> Store<C, H> {
-    pub(crate) fn admit_inner(
-        &mut self,
-        seat: u8,
-        period: u32,
-        writes: u32,
-    ) -> Result<Plan, Refusal>
-        ensures { Admits C.Chip.means self.old seat period writes result self.new }
+    // Admits a job to an empty seat, and answers its plan.
+    pub fn admit(&mut self, seat: u8, job: Job) -> Result<Plan, Refusal>
+        ensures effect { Admits (seen self.old) seat job.period job.writes result (seen self.new) }
+        ensures promise { (h : History) → Run h (seen self.old) → Entered (entry_admit seat job.period job.writes result) h (seen self.new) }
     {
-        if !self.is_open {
+        let Some(open) = &mut self.opened else {
             return Err(Refusal::NotOpen);
-        }
-        self.ledger.admit(seat, period, writes)
+        };
+        open.ledger.admit(seat, job)
     }
 
-    pub(crate) fn notice_inner(&mut self, seat: u8) -> Result<(), Refusal>
-        ensures { Notices C.Chip.means self.old seat result self.new }
+    // Puts a serving seat under notice: it is emptied at its meta-period's end.
+    pub fn notice(&mut self, seat: u8) -> Result<(), Refusal>
+        ensures effect { Notices (seen self.old) seat result (seen self.new) }
+        ensures promise { (h : History) → Run h (seen self.old) → Entered (entry_notice seat result) h (seen self.new) }
     {
-        if !self.is_open {
+        let Some(open) = &mut self.opened else {
             return Err(Refusal::NotOpen);
-        }
-        self.ledger.notice(seat)
+        };
+        open.ledger.notice(seat)
     }
 
-    pub(crate) fn take_inner(&mut self, seat: u8) -> Result<Permit, Refusal>
-        ensures { Takes C.Chip.means self.old seat result self.new }
+    // Takes a permit for one page write of a serving seat.
+    pub fn take(&mut self, seat: u8) -> Result<Permit, Refusal>
+        ensures effect { Takes (seen self.old) seat result (seen self.new) }
+        ensures promise { (h : History) → Run h (seen self.old) → Entered (entry_take seat result) h (seen self.new) }
     {
-        if !self.is_open {
+        let Some(open) = &mut self.opened else {
             return Err(Refusal::NotOpen);
-        }
-        match self.ledger.take(seat) {
-            Ok(_) => Ok(Permit { seat }),
-            Err(refusal) => Err(refusal),
-        }
+        };
+        open.ledger.take(seat)?;
+        Ok(Permit { seat })
     }
 
-    pub(crate) fn hand_back_inner(&mut self, permit: Permit) -> Result<(), Refusal>
-        ensures { Returns C.Chip.means self.old permit.seat result self.new }
+    // Hands a permit back. The permit is spent whatever the answer.
+    pub fn hand_back(&mut self, permit: Permit) -> Result<(), Refusal>
+        ensures effect { Returns (seen self.old) permit.seat result (seen self.new) }
+        ensures promise { (h : History) → Run h (seen self.old) → Entered (entry_return permit.seat result) h (seen self.new) }
     {
         let Permit { seat } = permit;
-        if !self.is_open {
+        let Some(open) = &mut self.opened else {
             return Err(Refusal::NotOpen);
-        }
-        self.ledger.hand_back(seat)
+        };
+        open.ledger.hand_back(seat)
     }
 }

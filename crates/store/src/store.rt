@@ -1,17 +1,17 @@
+ghost use Rattle.store.specs.State.{Sound, sound_prop, standing};
+
+use crate::open::Open;
 use chip::Chip;
 use chooser::Chooser;
-use ledger::Ledger;
-use pages::Tables;
 
-// A store is put together from any chip and any chooser, which it holds by value. The ledger has the seats
-// and the tokens, the tables have the page map and what is counted of the chip's pages.
+// A store is put together from any chip and any chooser, which it holds by value, and is shut until it is opened.
+// While it is open its chip, its tables and its ledger belong together: no call leaves them otherwise.
 #[derive(Drop)]
 pub struct Store<C: Chip, H: Chooser> {
     pub(crate) chip: C,
     pub(crate) chooser: H,
-    pub(crate) is_open: bool,
-    pub(crate) ledger: Ledger,
-    pub(crate) tables: Tables,
+    pub(crate) opened: Option<Open>,
+    ghost sound: { Sound (standing (C.Chip.means chip) chooser opened) } by { sound_prop (C.Chip.means chip) chooser opened },
 }
 
 // The right to one page write of a seat. It is neither `Drop` nor `Copy`: whoever holds one has to spend it,

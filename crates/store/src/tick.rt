@@ -1,8 +1,12 @@
-ghost use Rattle.std.specs.Prelude.{◌≡◌, ℕ, ◌+◌, ◌^◌, ◌<◌};
-ghost use Rattle.store.specs.State.{Sound};
+ghost use Rattle.std.specs.Prelude.{◌≡◌, ℕ, ◌+◌, ◌^◌, ◌<◌, Some};
+ghost use Rattle.history.specs.History.{History};
+ghost use Rattle.store.specs.State.{standing};
+ghost use Rattle.store.specs.Seen.{seen};
 ghost use Rattle.store.specs.Effects.{Ticks};
+ghost use Rattle.store.specs.Calls.{Run, Entered, entry_tick};
 ghost use Rattle.store.specs.Walking.{one_run, one_recycle, CanRun, Runs, CanServe, Serves};
 
+use crate::open::Open;
 use crate::saves::pay_for;
 use crate::store::Store;
 use crate::ticked::Ticked;
@@ -18,9 +22,7 @@ impl Ticked {
     {
         Ticked {
             runs: self.runs.saturating_add(1),
-            recycles: self.recycles,
-            copies: self.copies,
-            tries: self.tries,
+            ..self
         }
     }
 
@@ -37,63 +39,64 @@ impl Ticked {
     }
 }
 
-impl<C: Chip, H: Chooser> Store<C, H> {
+impl Open {
     // One run for a seat: unless there are pages to spare, a block is recycled first; then the seat's account
     // gains the yield.
-    fn run(&mut self, seat: u8, so_far: Ticked) -> Option<Ticked>
-        ensures { (n : ℕ) → CanRun C.Chip.means n seat so_far self.old → Runs C.Chip.means n seat so_far self.old result self.new }
+    fn run<C: Chip, H: Chooser>(
+        &mut self,
+        chip: &mut C,
+        chooser: &mut H,
+        seat: u8,
+        so_far: Ticked,
+    ) -> Result<Ticked, Refusal>
+        ensures { (n : ℕ) → CanRun n seat so_far (standing (C.Chip.means chip.old) chooser.old (Some self.old)) → Runs n seat so_far (standing (C.Chip.means chip.old) chooser.old (Some self.old)) result (standing (C.Chip.means chip.new) chooser.new (Some self.new)) }
     {
         let wanted = u64::from(self.ledger.tokens()) + u64::from(self.ledger.alpha());
         if u64::from(self.tables.free) >= wanted {
             self.ledger.ran(seat);
-            return Some(so_far.with_run());
+            return Ok(so_far.with_run());
         }
-        let done = match self.tables.recycle(&mut self.chip, &mut self.chooser) {
-            Some(done) => done,
-            None => return None,
-        };
+        let done = self.tables.recycle(chip, chooser)?;
         pay_for(&mut self.ledger, done.tries.saturating_sub(done.copies));
         self.ledger.ran(seat);
-        Some(so_far.with_recycle(done))
+        Ok(so_far.with_recycle(done))
     }
 
     // A tick for one seat: its clock, the runs that are due then, and the end of its meta-period.
-    fn serve(&mut self, seat: u8, so_far: Ticked) -> Option<Ticked>
-        ensures { (n : ℕ) → CanServe C.Chip.means n seat so_far self.old → Serves C.Chip.means n seat so_far self.old result self.new }
+    fn serve<C: Chip, H: Chooser>(
+        &mut self,
+        chip: &mut C,
+        chooser: &mut H,
+        seat: u8,
+        so_far: Ticked,
+    ) -> Result<Ticked, Refusal>
+        ensures { (n : ℕ) → CanServe n seat so_far (standing (C.Chip.means chip.old) chooser.old (Some self.old)) → Serves n seat so_far (standing (C.Chip.means chip.old) chooser.old (Some self.old)) result (standing (C.Chip.means chip.new) chooser.new (Some self.new)) }
     {
         if !self.ledger.enter(seat) {
-            return Some(so_far);
+            return Ok(so_far);
         }
         let due = self.ledger.runs_due(seat);
         let mut count = so_far;
         for _ in 0..due {
-            count = match self.run(seat, count) {
-                Some(more) => more,
-                None => return None,
-            };
+            count = self.run(chip, chooser, seat, count)?;
         }
         self.ledger.end(seat);
-        Some(count)
+        Ok(count)
     }
+}
 
-    // A tick for every seat, in ascending order.
-    pub(crate) fn pass(&mut self) -> Result<Ticked, Refusal>
-        ensures { Sound C.Chip.means self.old → Ticks C.Chip.means self.old result self.new }
+impl<C: Chip, H: Chooser> Store<C, H> {
+    // A tick of the clock: every seat in use makes the runs that are due, in ascending order.
+    pub fn tick(&mut self) -> Result<Ticked, Refusal>
+        ensures effect { Ticks (seen self.old) result (seen self.new) }
+        ensures promise { (h : History) → Run h (seen self.old) → Entered (entry_tick result) h (seen self.new) }
     {
-        if !self.is_open {
+        let Some(open) = &mut self.opened else {
             return Err(Refusal::NotOpen);
-        }
-        let mut count = Ticked {
-            runs: 0,
-            recycles: 0,
-            copies: 0,
-            tries: 0,
         };
+        let mut count = Ticked::default();
         for seat in 0..8u8 {
-            count = match self.serve(seat, count) {
-                Some(more) => more,
-                None => return Err(Refusal::TablesDisagree),
-            };
+            count = open.serve(&mut self.chip, &mut self.chooser, seat, count)?;
         }
         Ok(count)
     }

@@ -1,6 +1,6 @@
 // What a tick did: the runs it made, the blocks it recycled, the live pages it copied out of them, and the
 // programs it called for the copies.
-#[derive(Clone, Copy)]
+#[derive(Clone, Copy, PartialEq, Eq, Debug, Default)]
 pub struct Ticked {
     pub runs: u32,
     pub recycles: u32,
