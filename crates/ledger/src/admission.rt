@@ -12,18 +12,18 @@ use crate::seat::Seat;
 use plan::{Job, Plan, yield_rule};
 
 impl Ledger {
-    // Admits a job of `writes` page writes in each period of `period` ticks to an empty seat, and answers its plan.
-    pub fn admit(&mut self, seat: u8, period: u32, writes: u32) -> Result<Plan, Refusal>
-        ensures answer { result ≡ answer (asks_admit (books_of self.old) seat period writes) (plan_of self.old.frame.alpha period writes) }
-        ensures books { books_of self.new ≡ unless (asks_admit (books_of self.old) seat period writes) (admitted (books_of self.old) seat (plan_of self.old.frame.alpha period writes)) (books_of self.old) }
+    // Admits a job to an empty seat, and answers its plan.
+    pub fn admit(&mut self, seat: u8, job: Job) -> Result<Plan, Refusal>
+        ensures answer { result ≡ answer (asks_admit (books_of self.old) seat job.period job.writes) (plan_of self.old.frame.alpha job.period job.writes) }
+        ensures books { books_of self.new ≡ unless (asks_admit (books_of self.old) seat job.period job.writes) (admitted (books_of self.old) seat (plan_of self.old.frame.alpha job.period job.writes)) (books_of self.old) }
         ensures law { Keeps (books_of self.old) (books_of self.new) }
     {
-        self.enroll(seat, period, writes)
+        self.enroll(seat, job)
     }
 
-    fn enroll(&mut self, seat: u8, period: u32, writes: u32) -> Result<Plan, Refusal>
-        ensures answer { result ≡ answer (asks_admit (books_of self.old) seat period writes) (plan_of self.old.frame.alpha period writes) }
-        ensures books { books_of self.new ≡ unless (asks_admit (books_of self.old) seat period writes) (admitted (books_of self.old) seat (plan_of self.old.frame.alpha period writes)) (books_of self.old) }
+    fn enroll(&mut self, seat: u8, job: Job) -> Result<Plan, Refusal>
+        ensures answer { result ≡ answer (asks_admit (books_of self.old) seat job.period job.writes) (plan_of self.old.frame.alpha job.period job.writes) }
+        ensures books { books_of self.new ≡ unless (asks_admit (books_of self.old) seat job.period job.writes) (admitted (books_of self.old) seat (plan_of self.old.frame.alpha job.period job.writes)) (books_of self.old) }
     {
         if seat >= 8 {
             return Err(Refusal::NoSuchSeat);
@@ -31,7 +31,7 @@ impl Ledger {
         if self.seats[seat as usize].is_in_use() {
             return Err(Refusal::SeatInUse);
         }
-        let plan = self.plan_for(period, writes)?;
+        let plan = self.plan_for(job)?;
         let share = self.collector_share();
         let pool = self.pool - (plan.writes + share);
         self.put_with(seat, Seat::admitted(plan, share), pool);
@@ -39,11 +39,11 @@ impl Ledger {
     }
 
     // The plan of a job, if pool and yield rule allow it.
-    fn plan_for(&self, period: u32, writes: u32) -> Result<Plan, Refusal>
-        ensures answer { result ≡ answer (asks_plan (books_of self.now) (planned self.now.frame.alpha period writes)) (plan_of self.now.frame.alpha period writes) }
+    fn plan_for(&self, job: Job) -> Result<Plan, Refusal>
+        ensures answer { result ≡ answer (asks_plan (books_of self.now) (planned self.now.frame.alpha job.period job.writes)) (plan_of self.now.frame.alpha job.period job.writes) }
         ensures affordable { IfOk result (λ plan. Affordable (books_of self.now) plan) }
     {
-        let Some(plan) = Plan::of(self.frame.alpha, Job { period, writes }) else {
+        let Some(plan) = Plan::of(self.frame.alpha, job) else {
             return Err(Refusal::JobOutOfRange);
         };
         if plan.writes + self.collector_share() > self.pool {

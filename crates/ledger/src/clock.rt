@@ -52,11 +52,11 @@ impl Ledger {
         ensures answer { result ≡ used_seat (books_of self.old) seat }
         ensures books { books_of self.new ≡ stepped (books_of self.old) seat }
     {
-        let Ok(job) = self.job(seat) else {
+        let Ok(found) = self.find(seat) else {
             return false;
         };
-        if job.elapsed < job.plan.meta_period {
-            self.put(seat, job.one_later());
+        if found.elapsed < found.plan.meta_period {
+            self.put(seat, found.one_later());
         }
         true
     }
@@ -64,41 +64,41 @@ impl Ledger {
     fn owed(&self, seat: u8) -> u32
         ensures { result ≡ owes (books_of self.now) seat }
     {
-        let Ok(job) = self.job(seat) else {
+        let Ok(found) = self.find(seat) else {
             return 0;
         };
-        job.due() - job.runs
+        found.due() - found.runs
     }
 
     fn add_run(&mut self, seat: u8)
         ensures { books_of self.new ≡ made_one (books_of self.old) seat }
     {
-        let Ok(job) = self.job(seat) else {
+        let Ok(found) = self.find(seat) else {
             return;
         };
-        if job.runs < job.due() {
-            self.put(seat, job.ran(self.frame.alpha));
+        if found.runs < found.due() {
+            self.put(seat, found.ran(self.frame.alpha));
         }
     }
 
     fn close(&mut self, seat: u8)
         ensures { books_of self.new ≡ ended (books_of self.old) seat }
     {
-        let Ok(job) = self.job(seat) else {
+        let Ok(found) = self.find(seat) else {
             return;
         };
-        let pool = self.given_back(seat, job);
-        self.put_with(seat, job.turned(), pool);
+        let pool = self.given_back(seat, found);
+        self.put_with(seat, found.turned(), pool);
     }
 
     // The pool once this seat's tick ends.
-    fn given_back(&self, seat: u8, job: Seat) -> u32
-        requires { Found (books_of self.now) seat job }
-        ensures { result ≡ self.now.pool + (if leaves job then job.plan.writes + collector_share self.now.frame else 0) }
+    fn given_back(&self, seat: u8, found: Seat) -> u32
+        requires { Found (books_of self.now) seat found }
+        ensures { result ≡ self.now.pool + (if leaves found then found.plan.writes + collector_share self.now.frame else 0) }
     {
-        if !job.leaves() {
+        if !found.leaves() {
             return self.pool;
         }
-        self.pool + (job.plan.writes + self.collector_share())
+        self.pool + (found.plan.writes + self.collector_share())
     }
 }

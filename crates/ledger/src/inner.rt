@@ -15,8 +15,8 @@ impl Ledger {
         ensures answer { result ≡ answer (asks_notice (books_of self.old) seat) tt }
         ensures books { books_of self.new ≡ unless (asks_notice (books_of self.old) seat) (noticed (books_of self.old) seat) (books_of self.old) }
     {
-        let job = self.done(seat)?;
-        self.put(seat, job.warned());
+        let found = self.done(seat)?;
+        self.put(seat, found.warned());
         Ok(())
     }
 
@@ -24,8 +24,8 @@ impl Ledger {
         ensures answer { result ≡ answer (asks_take (books_of self.old) seat) tt }
         ensures books { books_of self.new ≡ unless (asks_take (books_of self.old) seat) (taken (books_of self.old) seat) (books_of self.old) }
     {
-        let job = self.entitled(seat)?;
-        self.put(seat, job.took());
+        let found = self.entitled(seat)?;
+        self.put(seat, found.took());
         Ok(())
     }
 
@@ -33,8 +33,8 @@ impl Ledger {
         ensures answer { result ≡ answer (asks_return (books_of self.old) seat) tt }
         ensures books { books_of self.new ≡ unless (asks_return (books_of self.old) seat) (returned (books_of self.old) seat) (books_of self.old) }
     {
-        let job = self.holder(seat)?;
-        self.put(seat, job.gave_back());
+        let found = self.holder(seat)?;
+        self.put(seat, found.gave_back());
         Ok(())
     }
 
@@ -42,8 +42,8 @@ impl Ledger {
         ensures answer { result ≡ answer (asks_return (books_of self.old) seat) tt }
         ensures books { books_of self.new ≡ unless (asks_return (books_of self.old) seat) (spent (books_of self.old) seat) (books_of self.old) }
     {
-        let job = self.holder(seat)?;
-        self.put(seat, job.saved());
+        let found = self.holder(seat)?;
+        self.put(seat, found.saved());
         Ok(())
     }
 
@@ -60,14 +60,14 @@ impl Ledger {
         ensures serves { IfOk result (λ s. is_serving s ≡ true) }
         ensures room { IfOk result (λ s. s.charge < s.plan.writes) }
     {
-        let job = self.job(seat)?;
-        if !job.serves() {
+        let found = self.find(seat)?;
+        if !found.serves() {
             return Err(Refusal::SeatNotServing);
         }
-        if job.charge >= job.plan.writes {
+        if found.charge >= found.plan.writes {
             return Err(Refusal::AllCharged);
         }
-        Ok(job)
+        Ok(found)
     }
 
     // The seat of a number, if it serves and has no permit out.
@@ -76,14 +76,14 @@ impl Ledger {
         ensures found { IfOk result (λ s. Found (books_of self.now) seat s) }
         ensures out { IfOk result (λ s. s.out ≡ 0) }
     {
-        let job = self.job(seat)?;
-        if !job.serves() {
+        let found = self.find(seat)?;
+        if !found.serves() {
             return Err(Refusal::SeatNotServing);
         }
-        if job.out != 0 {
+        if found.out != 0 {
             return Err(Refusal::PermitsOut);
         }
-        Ok(job)
+        Ok(found)
     }
 
     // The seat of a number, if it is in use and has a permit out.
@@ -92,15 +92,15 @@ impl Ledger {
         ensures found { IfOk result (λ s. Found (books_of self.now) seat s) }
         ensures out { IfOk result (λ s. 0 < s.out) }
     {
-        let job = self.job(seat)?;
-        if job.out == 0 {
+        let found = self.find(seat)?;
+        if found.out == 0 {
             return Err(Refusal::NoPermitOut);
         }
-        Ok(job)
+        Ok(found)
     }
 
     // The seat of a number, if it is in use, and what the books know of it.
-    pub(crate) fn job(&self, seat: u8) -> Result<Seat, Refusal>
+    pub(crate) fn find(&self, seat: u8) -> Result<Seat, Refusal>
         ensures answer { result ≡ answer (ask (used_seat (books_of self.now) seat) SeatNotInUse None) (seat_of (books_of self.now) seat) }
         ensures found { IfOk result (λ s. Found (books_of self.now) seat s) }
     {

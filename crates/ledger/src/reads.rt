@@ -29,7 +29,7 @@ impl Ledger {
     pub fn in_use(&self, seat: u8) -> bool
         ensures { result ≡ used_seat (books_of self.now) seat }
     {
-        self.job(seat).is_ok()
+        self.find(seat).is_ok()
     }
 
     // All tokens: of the pool, the spare account, the seats and their collectors. Never more than the yield rule

@@ -12,7 +12,7 @@ ran-requires c =
     let most = account_within j in
     let made = due_within j in
     let small : c.args.self.now.frame.alpha ≤ 32 = omega (arith, b.yields_within, b.small_blocks) in
-    let few : c.in-Ok.job.runs ≤ 1024 = omega (arith, j.runs_few) in
+    let few : c.in-Ok.found.runs ≤ 1024 = omega (arith, j.runs_few) in
     let won = mul-le-mul small few in
     (omega (arith, j.writes_few, b.yields_within, b.small_blocks), omega (arith, j.runs_few))
 
@@ -20,7 +20,7 @@ pub put-requires : goal.put-requires
 put-requires c =
     let l = c.args.self.now in
     let found = c.in-Ok.ensures.found in
-    let more : c.in-Ok.job.runs < due c.in-Ok.job = omega arith in
+    let more : c.in-Ok.found.runs < due c.in-Ok.found = omega arith in
     record {
       within = found.there;
       fair = put_as l found c.ran.ensures (ran_put l found more);

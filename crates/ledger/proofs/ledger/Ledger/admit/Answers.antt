@@ -7,5 +7,5 @@ returns c =
     record {
       answer = c.enroll.ensures.answer;
       books = c.enroll.ensures.books;
-      law = admit_keeps (fair_of c.args.self.now) c.args.seat c.args.period c.args.writes c.enroll.ensures.books;
+      law = admit_keeps (fair_of c.args.self.now) c.args.seat c.args.job.period c.args.job.writes c.enroll.ensures.books;
     }

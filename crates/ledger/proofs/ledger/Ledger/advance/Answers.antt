@@ -7,5 +7,5 @@ put-requires c =
     let found = c.in-Ok.ensures.found in
     record {
       within = found.there;
-      fair = put_as l found c.one_later.ensures (one_later_put l found c.if-job.true);
+      fair = put_as l found c.one_later.ensures (one_later_put l found c.if-found.true);
     }

@@ -16,4 +16,4 @@ pub put_with-requires : goal.put_with-requires
 put_with-requires c =
     let l = c.args.self.now in
     let found = c.in-Ok.ensures.found in
-    record { within = found.there; fair = put_as_with l c.args.seat {q = l.pool + back l.frame c.in-Ok.job} c.turned.ensures c.given_back-pool.ensures (turned_put l found) }
+    record { within = found.there; fair = put_as_with l c.args.seat {q = l.pool + back l.frame c.in-Ok.found} c.turned.ensures c.given_back-pool.ensures (turned_put l found) }

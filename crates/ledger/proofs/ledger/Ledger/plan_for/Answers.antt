@@ -8,10 +8,10 @@ use Rattle.ledger.proofs.Facts.{fair_of}
 use Rattle.ledger.proofs.ledger.Ledger.plan_for.Goals as goal
 use Rattle.ledger.proofs.ledger.Ledger.plan_for.Goals.{In-Some}
 
-as_planned : (c : In-Some) → planned c.args.self.now.frame.alpha c.args.period c.args.writes ≡ Some c.in-Some.plan
+as_planned : (c : In-Some) → planned c.args.self.now.frame.alpha c.args.job.period c.args.job.writes ≡ Some c.in-Some.plan
 as_planned c = sym c.of.ensures.plan ∙ c.in-Some.is
 
-sized : (c : In-Some) → Sized c.args.self.now.frame.alpha c.args.period c.args.writes c.in-Some.plan
+sized : (c : In-Some) → Sized c.args.self.now.frame.alpha c.args.job.period c.args.job.writes c.in-Some.plan
 sized c = planned_sized _ _ _ c.in-Some.plan (as_planned c) (c.of.ensures.law c.in-Some.plan c.in-Some.is)
 
 pub overflow_add-plan : goal.overflow_add-plan
@@ -32,9 +32,9 @@ returns c =
     let plan = c.in-Some.plan in
     let room : plan.writes + collector_share b.frame ≤ b.pool = omega arith in
     let rule = sym c.if-not-rule_with.ensures in
-    let asked = afforded b (planned b.frame.alpha c.args.period c.args.writes) plan (as_planned here) room rule in
+    let asked = afforded b (planned b.frame.alpha c.args.job.period c.args.job.writes) plan (as_planned here) room rule in
     record {
-      answer = ap (λ (p : Plan). Ok p) (sym s.is) ∙ ap (λ q. answer q (plan_of b.frame.alpha c.args.period c.args.writes)) (sym asked);
+      answer = ap (λ (p : Plan). Ok p) (sym s.is) ∙ ap (λ q. answer q (plan_of b.frame.alpha c.args.job.period c.args.job.writes)) (sym asked);
       affordable = record {
         lasts = law.lasts;
         writes_some = law.writes_some;

@@ -1,7 +1,7 @@
 use Rattle.ledger.specs.Of.{books_of}
 use Rattle.ledger.proofs.Answered.{found_in}
 use Rattle.ledger.proofs.Facts.{fair_of}
-use Rattle.ledger.proofs.ledger.Ledger.job.Goals as goal
+use Rattle.ledger.proofs.ledger.Ledger.find.Goals as goal
 
 pub returns : goal.returns
 returns c =
