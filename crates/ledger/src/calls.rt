@@ -14,7 +14,9 @@ impl Ledger {
         ensures books { books_of self.new ≡ unless (asks_notice (books_of self.old) seat) (noticed (books_of self.old) seat) (books_of self.old) }
         ensures law { Keeps (books_of self.old) (books_of self.new) }
     {
-        self.warn(seat)
+        let found = self.done(seat)?;
+        self.put(seat, found.warned());
+        Ok(())
     }
 
     // Grants a permit to a serving seat whose writes are not all charged.
@@ -23,7 +25,9 @@ impl Ledger {
         ensures books { books_of self.new ≡ unless (asks_take (books_of self.old) seat) (taken (books_of self.old) seat) (books_of self.old) }
         ensures law { Keeps (books_of self.old) (books_of self.new) }
     {
-        self.grant(seat)
+        let found = self.entitled(seat)?;
+        self.put(seat, found.took());
+        Ok(())
     }
 
     // Takes a permit back: its write is charged no longer.
@@ -32,7 +36,9 @@ impl Ledger {
         ensures books { books_of self.new ≡ unless (asks_return (books_of self.old) seat) (returned (books_of self.old) seat) (books_of self.old) }
         ensures law { Keeps (books_of self.old) (books_of self.new) }
     {
-        self.refund(seat)
+        let found = self.holder(seat)?;
+        self.put(seat, found.gave_back());
+        Ok(())
     }
 
     // May a save spend a permit of this seat?
@@ -49,7 +55,9 @@ impl Ledger {
         ensures books { books_of self.new ≡ unless (asks_return (books_of self.old) seat) (spent (books_of self.old) seat) (books_of self.old) }
         ensures law { MatchResult result (λ _. Spends (books_of self.old) (books_of self.new)) (λ _. Keeps (books_of self.old) (books_of self.new)) }
     {
-        self.debit(seat)
+        let found = self.holder(seat)?;
+        self.put(seat, found.saved());
+        Ok(())
     }
 
     // A page write failed: the spare account pays for it, and no seat.
@@ -57,6 +65,6 @@ impl Ledger {
         ensures books { books_of self.new ≡ paid (books_of self.old) }
         ensures law { 0 < (books_of self.old).spare → Spends (books_of self.old) (books_of self.new) }
     {
-        self.draw();
+        self.spare = self.spare.saturating_sub(1);
     }
 }

@@ -17,41 +17,6 @@ impl Ledger {
         ensures tokens { tokens (books_of self.new) ≡ tokens (books_of self.old) }
         ensures settled { Settled (books_of self.old) → SettledBut seat (books_of self.new) }
     {
-        self.advance(seat)
-    }
-
-    // A run was made for a seat that owed one: its account gains the yield.
-    pub fn ran(&mut self, seat: u8)
-        ensures books { books_of self.new ≡ made_one (books_of self.old) seat }
-        ensures tokens { 0 < owes (books_of self.old) seat → tokens (books_of self.new) ≡ tokens (books_of self.old) + self.old.frame.alpha }
-        ensures settled { SettledBut seat (books_of self.old) → SettledBut seat (books_of self.new) }
-    {
-        self.add_run(seat);
-    }
-
-    // At its meta-period's end a serving seat starts a new one; a seat under notice is emptied, and the pool
-    // has back what it lent. Once the runs that were due are made, this never makes tokens.
-    pub fn end(&mut self, seat: u8)
-        ensures books { books_of self.new ≡ ended (books_of self.old) seat }
-        ensures tokens { owes (books_of self.old) seat ≡ 0 → tokens (books_of self.new) ≤ tokens (books_of self.old) }
-        ensures settled { seat < 8 → owes (books_of self.old) seat ≡ 0 → SettledBut seat (books_of self.old) → Settled (books_of self.new) }
-    {
-        self.close(seat);
-    }
-
-    // How many runs the seat still owes for the ticks that have passed. While it owes one, and the other seats are
-    // settled, no seat has made its last run.
-    pub fn runs_due(&self, seat: u8) -> u32
-        ensures value { result ≡ owes (books_of self.now) seat }
-        ensures below { 0 < result → SettledBut seat (books_of self.now) → Below (books_of self.now) }
-    {
-        self.owed(seat)
-    }
-
-    fn advance(&mut self, seat: u8) -> bool
-        ensures answer { result ≡ used_seat (books_of self.old) seat }
-        ensures books { books_of self.new ≡ stepped (books_of self.old) seat }
-    {
         let Ok(found) = self.find(seat) else {
             return false;
         };
@@ -61,17 +26,11 @@ impl Ledger {
         true
     }
 
-    fn owed(&self, seat: u8) -> u32
-        ensures { result ≡ owes (books_of self.now) seat }
-    {
-        let Ok(found) = self.find(seat) else {
-            return 0;
-        };
-        found.due() - found.runs
-    }
-
-    fn add_run(&mut self, seat: u8)
-        ensures { books_of self.new ≡ made_one (books_of self.old) seat }
+    // A run was made for a seat that owed one: its account gains the yield.
+    pub fn ran(&mut self, seat: u8)
+        ensures books { books_of self.new ≡ made_one (books_of self.old) seat }
+        ensures tokens { 0 < owes (books_of self.old) seat → tokens (books_of self.new) ≡ tokens (books_of self.old) + self.old.frame.alpha }
+        ensures settled { SettledBut seat (books_of self.old) → SettledBut seat (books_of self.new) }
     {
         let Ok(found) = self.find(seat) else {
             return;
@@ -81,14 +40,30 @@ impl Ledger {
         }
     }
 
-    fn close(&mut self, seat: u8)
-        ensures { books_of self.new ≡ ended (books_of self.old) seat }
+    // At its meta-period's end a serving seat starts a new one; a seat under notice is emptied, and the pool
+    // has back what it lent. Once the runs that were due are made, this never makes tokens.
+    pub fn end(&mut self, seat: u8)
+        ensures books { books_of self.new ≡ ended (books_of self.old) seat }
+        ensures tokens { owes (books_of self.old) seat ≡ 0 → tokens (books_of self.new) ≤ tokens (books_of self.old) }
+        ensures settled { seat < 8 → owes (books_of self.old) seat ≡ 0 → SettledBut seat (books_of self.old) → Settled (books_of self.new) }
     {
         let Ok(found) = self.find(seat) else {
             return;
         };
         let pool = self.given_back(seat, found);
         self.put_with(seat, found.turned(), pool);
+    }
+
+    // How many runs the seat still owes for the ticks that have passed. While it owes one, and the other seats are
+    // settled, no seat has made its last run.
+    pub fn runs_due(&self, seat: u8) -> u32
+        ensures value { result ≡ owes (books_of self.now) seat }
+        ensures below { 0 < result → SettledBut seat (books_of self.now) → Below (books_of self.now) }
+    {
+        let Ok(found) = self.find(seat) else {
+            return 0;
+        };
+        found.due() - found.runs
     }
 
     // The pool once this seat's tick ends.
