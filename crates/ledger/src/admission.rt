@@ -18,17 +18,8 @@ impl Ledger {
         ensures books { books_of self.new ≡ unless (asks_admit (books_of self.old) seat job.period job.writes) (admitted (books_of self.old) seat (plan_of self.old.frame.alpha job.period job.writes)) (books_of self.old) }
         ensures law { Keeps (books_of self.old) (books_of self.new) }
     {
-        self.enroll(seat, job)
-    }
-
-    fn enroll(&mut self, seat: u8, job: Job) -> Result<Plan, Refusal>
-        ensures answer { result ≡ answer (asks_admit (books_of self.old) seat job.period job.writes) (plan_of self.old.frame.alpha job.period job.writes) }
-        ensures books { books_of self.new ≡ unless (asks_admit (books_of self.old) seat job.period job.writes) (admitted (books_of self.old) seat (plan_of self.old.frame.alpha job.period job.writes)) (books_of self.old) }
-    {
-        if seat >= 8 {
-            return Err(Refusal::NoSuchSeat);
-        }
-        if self.seats[seat as usize].is_in_use() {
+        let found = self.seats.get(usize::from(seat)).copied().ok_or(Refusal::NoSuchSeat)?;
+        if found.is_in_use() {
             return Err(Refusal::SeatInUse);
         }
         let plan = self.plan_for(job)?;
@@ -43,9 +34,7 @@ impl Ledger {
         ensures answer { result ≡ answer (asks_plan (books_of self.now) (planned self.now.frame.alpha job.period job.writes)) (plan_of self.now.frame.alpha job.period job.writes) }
         ensures affordable { IfOk result (λ plan. Affordable (books_of self.now) plan) }
     {
-        let Some(plan) = Plan::of(self.frame.alpha, job) else {
-            return Err(Refusal::JobOutOfRange);
-        };
+        let plan = Plan::of(self.frame.alpha, job).ok_or(Refusal::JobOutOfRange)?;
         if plan.writes + self.collector_share() > self.pool {
             return Err(Refusal::PoolTooSmall);
         }

@@ -19,11 +19,10 @@ impl Ledger {
     pub fn seat(&self, seat: u8) -> Seat
         ensures { result ≡ seat_of (books_of self.now) seat }
     {
-        if seat < 8 {
-            self.seats[seat as usize]
-        } else {
-            Seat::vacant()
-        }
+        self.seats
+            .get(usize::from(seat))
+            .copied()
+            .unwrap_or(Seat::vacant())
     }
 
     pub fn in_use(&self, seat: u8) -> bool
@@ -38,6 +37,6 @@ impl Ledger {
         ensures value { result ≡ tokens (books_of self.now) }
         ensures cap { Below (books_of self.now) → result ≤ highest (books_of self.now) }
     {
-        self.total()
+        self.pool + self.spare + self.held()
     }
 }
