@@ -9,7 +9,7 @@ ghost use Rattle.ledger.specs.Of.{books_of};
 use crate::ledger::Ledger;
 use crate::refusal::Refusal;
 use crate::seat::Seat;
-use plan::{Job, Plan, yield_rule};
+use plan::{Job, Plan};
 
 impl Ledger {
     // Admits a job to an empty seat, and answers its plan.
@@ -18,7 +18,10 @@ impl Ledger {
         ensures books { books_of self.new ≡ unless (asks_admit (books_of self.old) seat job.period job.writes) (admitted (books_of self.old) seat (plan_of self.old.frame.alpha job.period job.writes)) (books_of self.old) }
         ensures law { Keeps (books_of self.old) (books_of self.new) }
     {
-        let found = self.seats.get(usize::from(seat)).copied().ok_or(Refusal::NoSuchSeat)?;
+        let found = self
+            .seats
+            .get(usize::from(seat))
+            .ok_or(Refusal::NoSuchSeat)?;
         if found.is_in_use() {
             return Err(Refusal::SeatInUse);
         }
@@ -51,12 +54,6 @@ impl Ledger {
         ensures { result ≡ rule_with (books_of self.now) plan }
     {
         let most = self.highest() + (plan.runs - 1) * self.frame.alpha;
-        yield_rule(
-            u64::from(self.frame.blocks),
-            u64::from(self.frame.pages_per_block),
-            u64::from(self.frame.numbers),
-            u64::from(most),
-            u64::from(self.frame.alpha),
-        )
+        self.frame.yields(u64::from(most))
     }
 }

@@ -1,6 +1,7 @@
 // The books as an opening makes them.
 ghost use Rattle.std.specs.Prelude.{◌≡◌, if◌then◌else◌, Some, None};
 ghost use Rattle.std.specs.Option.{option_map};
+ghost use Rattle.plan.specs.Yield.{yield_rule};
 ghost use Rattle.ledger.specs.Fair.{idle, opened, stands};
 ghost use Rattle.ledger.specs.Of.{books_of};
 
@@ -14,18 +15,22 @@ impl Frame {
     pub(crate) fn stands(self) -> bool
         ensures { result ≡ stands self }
     {
-        if self.alpha < 1
-            || self.alpha > self.pages_per_block
-            || self.pages_per_block > 32
-            || self.blocks > 64
-        {
-            return false;
-        }
+        self.alpha >= 1
+            && self.alpha <= self.pages_per_block
+            && self.pages_per_block <= 32
+            && self.blocks <= 64
+            && self.yields(u64::from(self.pool) + u64::from(self.allowance))
+    }
+
+    // Does every choice of a block win back its yield, where so many tokens at most are out?
+    pub fn yields(self, held: u64) -> bool
+        ensures { result ≡ yield_rule self.blocks self.pages_per_block self.numbers held self.alpha }
+    {
         yield_rule(
             u64::from(self.blocks),
             u64::from(self.pages_per_block),
             u64::from(self.numbers),
-            u64::from(self.pool) + u64::from(self.allowance),
+            held,
             u64::from(self.alpha),
         )
     }
