@@ -26,7 +26,7 @@ impl Ledger {
             return Err(Refusal::SeatInUse);
         }
         let plan = self.plan_for(job)?;
-        let share = self.collector_share();
+        let share = self.frame.collector_share();
         let pool = self.pool - (plan.writes + share);
         self.put_with(seat, Seat::admitted(plan, share), pool);
         Ok(plan)
@@ -38,7 +38,7 @@ impl Ledger {
         ensures affordable { IfOk result (λ plan. Affordable (books_of self.now) plan) }
     {
         let plan = Plan::of(self.frame.alpha, job).ok_or(Refusal::JobOutOfRange)?;
-        if plan.writes + self.collector_share() > self.pool {
+        if plan.writes + self.frame.collector_share() > self.pool {
             return Err(Refusal::PoolTooSmall);
         }
         if !self.rule_with(plan) {

@@ -74,6 +74,6 @@ impl Ledger {
         if !found.leaves() {
             return self.pool;
         }
-        self.pool + (found.plan.writes + self.collector_share())
+        self.pool + (found.plan.writes + self.frame.collector_share())
     }
 }

@@ -1,18 +1,11 @@
 // Sums over the books.
 ghost use Rattle.std.specs.Prelude.{◌≡◌, ◌*◌, ◌≤◌};
-ghost use Rattle.ledger.specs.Books.{collector_share, extra, held, highest, tokens};
+ghost use Rattle.ledger.specs.Books.{extra, held, highest, tokens};
 ghost use Rattle.ledger.specs.Of.{books_of};
 
 use crate::ledger::Ledger;
 
 impl Ledger {
-    // What each collector holds.
-    pub(crate) fn collector_share(&self) -> u32
-        ensures { result ≡ collector_share (books_of self.now).frame }
-    {
-        self.frame.pages_per_block - self.frame.alpha
-    }
-
     // The most tokens that can be out when a block is chosen.
     pub(crate) fn highest(&self) -> u32
         ensures value { result ≡ highest (books_of self.now) }
