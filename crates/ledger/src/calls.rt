@@ -45,8 +45,7 @@ impl Ledger {
     pub fn may_spend(&self, seat: u8) -> Result<(), Refusal>
         ensures { result ≡ answer (asks_return (books_of self.now) seat) tt }
     {
-        self.holder(seat)?;
-        Ok(())
+        self.holder(seat).map(|_| ())
     }
 
     // A save was stored: the seat's account and one of its permits pay for it.

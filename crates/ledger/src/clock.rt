@@ -50,7 +50,11 @@ impl Ledger {
         let Ok(found) = self.find(seat) else {
             return;
         };
-        let pool = self.given_back(seat, found);
+        let pool = if found.leaves() {
+            self.pool + (found.plan.writes + self.frame.collector_share())
+        } else {
+            self.pool
+        };
         self.put_with(seat, found.turned(), pool);
     }
 
@@ -60,20 +64,6 @@ impl Ledger {
         ensures value { result ≡ owes (books_of self.now) seat }
         ensures below { 0 < result → SettledBut seat (books_of self.now) → Below (books_of self.now) }
     {
-        let Ok(found) = self.find(seat) else {
-            return 0;
-        };
-        found.due() - found.runs
-    }
-
-    // The pool once this seat's tick ends.
-    fn given_back(&self, seat: u8, found: Seat) -> u32
-        requires { Found (books_of self.now) seat found }
-        ensures { result ≡ self.now.pool + (if leaves found then found.plan.writes + collector_share self.now.frame else 0) }
-    {
-        if !found.leaves() {
-            return self.pool;
-        }
-        self.pool + (found.plan.writes + self.frame.collector_share())
+        self.find(seat).map_or(0, |found| found.due() - found.runs)
     }
 }

@@ -1,4 +1,4 @@
-use Rattle.std.proofs.Common.{rules, ◌≡◌, ◌<◌, false, get_or, sym, ap, ◌∙◌, arith}
+use Rattle.std.proofs.Common.{rules, ◌≡◌, ◌<◌, false, get_or, ap, ◌∙◌, arith}
 use Rattle.ledger.specs.Of.{books_of}
 use Rattle.ledger.specs.Seats.{nobody, in_use, seated}
 use Rattle.ledger.proofs.Admits.{seated_put}

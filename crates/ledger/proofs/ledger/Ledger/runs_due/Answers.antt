@@ -1,4 +1,4 @@
-use Rattle.std.proofs.Common.{rules, ◌<◌, subst}
+use Rattle.std.proofs.Common.{rules}
 use Rattle.ledger.specs.Of.{books_of}
 use Rattle.ledger.proofs.Facts.{fair_of}
 use Rattle.ledger.proofs.Settles.{below_owing}
