@@ -15,7 +15,7 @@ impl Ledger {
     // Admits a job to an empty seat, and answers its plan.
     pub fn admit(&mut self, seat: u8, job: Job) -> Result<Plan, Refusal>
         ensures answer { result ≡ answer (asks_admit (books_of self.old) seat job.period job.writes) (plan_of self.old.frame.alpha job.period job.writes) }
-        ensures books { books_of self.new ≡ unless (asks_admit (books_of self.old) seat job.period job.writes) (admitted (books_of self.old) seat (plan_of self.old.frame.alpha job.period job.writes)) (books_of self.old) }
+        ensures books { let before = books_of self.old in let plan = plan_of self.old.frame.alpha job.period job.writes in books_of self.new ≡ unless (asks_admit before seat job.period job.writes) (admitted before seat plan) before }
         ensures law { Keeps (books_of self.old) (books_of self.new) }
     {
         let found = self

@@ -11,7 +11,7 @@ impl Ledger {
     // Puts a serving seat that has no permit out under notice.
     pub fn notice(&mut self, seat: u8) -> Result<(), Refusal>
         ensures answer { result ≡ answer (asks_notice (books_of self.old) seat) tt }
-        ensures books { books_of self.new ≡ unless (asks_notice (books_of self.old) seat) (noticed (books_of self.old) seat) (books_of self.old) }
+        ensures books { let before = books_of self.old in books_of self.new ≡ unless (asks_notice before seat) (noticed before seat) before }
         ensures law { Keeps (books_of self.old) (books_of self.new) }
     {
         let found = self.done(seat)?;
@@ -22,7 +22,7 @@ impl Ledger {
     // Grants a permit to a serving seat whose writes are not all charged.
     pub fn take(&mut self, seat: u8) -> Result<(), Refusal>
         ensures answer { result ≡ answer (asks_take (books_of self.old) seat) tt }
-        ensures books { books_of self.new ≡ unless (asks_take (books_of self.old) seat) (taken (books_of self.old) seat) (books_of self.old) }
+        ensures books { let before = books_of self.old in books_of self.new ≡ unless (asks_take before seat) (taken before seat) before }
         ensures law { Keeps (books_of self.old) (books_of self.new) }
     {
         let found = self.entitled(seat)?;
@@ -33,7 +33,7 @@ impl Ledger {
     // Takes a permit back: its write is charged no longer.
     pub fn hand_back(&mut self, seat: u8) -> Result<(), Refusal>
         ensures answer { result ≡ answer (asks_return (books_of self.old) seat) tt }
-        ensures books { books_of self.new ≡ unless (asks_return (books_of self.old) seat) (returned (books_of self.old) seat) (books_of self.old) }
+        ensures books { let before = books_of self.old in books_of self.new ≡ unless (asks_return before seat) (returned before seat) before }
         ensures law { Keeps (books_of self.old) (books_of self.new) }
     {
         let found = self.holder(seat)?;
@@ -51,7 +51,7 @@ impl Ledger {
     // A save was stored: the seat's account and one of its permits pay for it.
     pub fn spend(&mut self, seat: u8) -> Result<(), Refusal>
         ensures answer { result ≡ answer (asks_return (books_of self.old) seat) tt }
-        ensures books { books_of self.new ≡ unless (asks_return (books_of self.old) seat) (spent (books_of self.old) seat) (books_of self.old) }
+        ensures books { let before = books_of self.old in books_of self.new ≡ unless (asks_return before seat) (spent before seat) before }
         ensures law { MatchResult result (λ _. Spends (books_of self.old) (books_of self.new)) (λ _. Keeps (books_of self.old) (books_of self.new)) }
     {
         let found = self.holder(seat)?;
