@@ -9,44 +9,36 @@ ghost use Rattle.ledger.specs.Of.{books_of};
 use crate::ledger::Ledger;
 use crate::refusal::Refusal;
 use crate::seat::Seat;
-use plan::{Job, Plan, yield_rule};
+use plan::{Job, Plan};
 
 impl Ledger {
-    // Admits a job of `writes` page writes in each period of `period` ticks to an empty seat, and answers its plan.
-    pub fn admit(&mut self, seat: u8, period: u32, writes: u32) -> Result<Plan, Refusal>
-        ensures answer { result ≡ answer (asks_admit (books_of self.old) seat period writes) (plan_of self.old.frame.alpha period writes) }
-        ensures books { books_of self.new ≡ unless (asks_admit (books_of self.old) seat period writes) (admitted (books_of self.old) seat (plan_of self.old.frame.alpha period writes)) (books_of self.old) }
+    // Admits a job to an empty seat, and answers its plan.
+    pub fn admit(&mut self, seat: u8, job: Job) -> Result<Plan, Refusal>
+        ensures answer { result ≡ answer (asks_admit (books_of self.old) seat job.period job.writes) (plan_of self.old.frame.alpha job.period job.writes) }
+        ensures books { let before = books_of self.old in let plan = plan_of self.old.frame.alpha job.period job.writes in books_of self.new ≡ unless (asks_admit before seat job.period job.writes) (admitted before seat plan) before }
         ensures law { Keeps (books_of self.old) (books_of self.new) }
     {
-        self.enroll(seat, period, writes)
-    }
-
-    fn enroll(&mut self, seat: u8, period: u32, writes: u32) -> Result<Plan, Refusal>
-        ensures answer { result ≡ answer (asks_admit (books_of self.old) seat period writes) (plan_of self.old.frame.alpha period writes) }
-        ensures books { books_of self.new ≡ unless (asks_admit (books_of self.old) seat period writes) (admitted (books_of self.old) seat (plan_of self.old.frame.alpha period writes)) (books_of self.old) }
-    {
-        if seat >= 8 {
-            return Err(Refusal::NoSuchSeat);
-        }
-        if self.seats[seat as usize].is_in_use() {
+        let found = self
+            .seats
+            .get(usize::from(seat))
+            .ok_or(Refusal::NoSuchSeat)?;
+        if found.is_in_use() {
             return Err(Refusal::SeatInUse);
         }
-        let plan = self.plan_for(period, writes)?;
-        let share = self.collector_share();
+        let plan = self.plan_for(job)?;
+        let share = self.frame.collector_share();
         let pool = self.pool - (plan.writes + share);
         self.put_with(seat, Seat::admitted(plan, share), pool);
         Ok(plan)
     }
 
     // The plan of a job, if pool and yield rule allow it.
-    fn plan_for(&self, period: u32, writes: u32) -> Result<Plan, Refusal>
-        ensures answer { result ≡ answer (asks_plan (books_of self.now) (planned self.now.frame.alpha period writes)) (plan_of self.now.frame.alpha period writes) }
+    fn plan_for(&self, job: Job) -> Result<Plan, Refusal>
+        ensures answer { result ≡ answer (asks_plan (books_of self.now) (planned self.now.frame.alpha job.period job.writes)) (plan_of self.now.frame.alpha job.period job.writes) }
         ensures affordable { IfOk result (λ plan. Affordable (books_of self.now) plan) }
     {
-        let Some(plan) = Plan::of(self.frame.alpha, Job { period, writes }) else {
-            return Err(Refusal::JobOutOfRange);
-        };
-        if plan.writes + self.collector_share() > self.pool {
+        let plan = Plan::of(self.frame.alpha, job).ok_or(Refusal::JobOutOfRange)?;
+        if plan.writes + self.frame.collector_share() > self.pool {
             return Err(Refusal::PoolTooSmall);
         }
         if !self.rule_with(plan) {
@@ -62,12 +54,6 @@ impl Ledger {
         ensures { result ≡ rule_with (books_of self.now) plan }
     {
         let most = self.highest() + (plan.runs - 1) * self.frame.alpha;
-        yield_rule(
-            u64::from(self.frame.blocks),
-            u64::from(self.frame.pages_per_block),
-            u64::from(self.frame.numbers),
-            u64::from(most),
-            u64::from(self.frame.alpha),
-        )
+        self.frame.yields(u64::from(most))
     }
 }

@@ -11,45 +11,52 @@ impl Ledger {
     // Puts a serving seat that has no permit out under notice.
     pub fn notice(&mut self, seat: u8) -> Result<(), Refusal>
         ensures answer { result ≡ answer (asks_notice (books_of self.old) seat) tt }
-        ensures books { books_of self.new ≡ unless (asks_notice (books_of self.old) seat) (noticed (books_of self.old) seat) (books_of self.old) }
+        ensures books { let before = books_of self.old in books_of self.new ≡ unless (asks_notice before seat) (noticed before seat) before }
         ensures law { Keeps (books_of self.old) (books_of self.new) }
     {
-        self.warn(seat)
+        let found = self.done(seat)?;
+        self.put(seat, found.warned());
+        Ok(())
     }
 
     // Grants a permit to a serving seat whose writes are not all charged.
     pub fn take(&mut self, seat: u8) -> Result<(), Refusal>
         ensures answer { result ≡ answer (asks_take (books_of self.old) seat) tt }
-        ensures books { books_of self.new ≡ unless (asks_take (books_of self.old) seat) (taken (books_of self.old) seat) (books_of self.old) }
+        ensures books { let before = books_of self.old in books_of self.new ≡ unless (asks_take before seat) (taken before seat) before }
         ensures law { Keeps (books_of self.old) (books_of self.new) }
     {
-        self.grant(seat)
+        let found = self.entitled(seat)?;
+        self.put(seat, found.took());
+        Ok(())
     }
 
     // Takes a permit back: its write is charged no longer.
     pub fn hand_back(&mut self, seat: u8) -> Result<(), Refusal>
         ensures answer { result ≡ answer (asks_return (books_of self.old) seat) tt }
-        ensures books { books_of self.new ≡ unless (asks_return (books_of self.old) seat) (returned (books_of self.old) seat) (books_of self.old) }
+        ensures books { let before = books_of self.old in books_of self.new ≡ unless (asks_return before seat) (returned before seat) before }
         ensures law { Keeps (books_of self.old) (books_of self.new) }
     {
-        self.refund(seat)
+        let found = self.holder(seat)?;
+        self.put(seat, found.gave_back());
+        Ok(())
     }
 
     // May a save spend a permit of this seat?
     pub fn may_spend(&self, seat: u8) -> Result<(), Refusal>
         ensures { result ≡ answer (asks_return (books_of self.now) seat) tt }
     {
-        self.holder(seat)?;
-        Ok(())
+        self.holder(seat).map(|_| ())
     }
 
     // A save was stored: the seat's account and one of its permits pay for it.
     pub fn spend(&mut self, seat: u8) -> Result<(), Refusal>
         ensures answer { result ≡ answer (asks_return (books_of self.old) seat) tt }
-        ensures books { books_of self.new ≡ unless (asks_return (books_of self.old) seat) (spent (books_of self.old) seat) (books_of self.old) }
+        ensures books { let before = books_of self.old in books_of self.new ≡ unless (asks_return before seat) (spent before seat) before }
         ensures law { MatchResult result (λ _. Spends (books_of self.old) (books_of self.new)) (λ _. Keeps (books_of self.old) (books_of self.new)) }
     {
-        self.debit(seat)
+        let found = self.holder(seat)?;
+        self.put(seat, found.saved());
+        Ok(())
     }
 
     // A page write failed: the spare account pays for it, and no seat.
@@ -57,6 +64,6 @@ impl Ledger {
         ensures books { books_of self.new ≡ paid (books_of self.old) }
         ensures law { 0 < (books_of self.old).spare → Spends (books_of self.old) (books_of self.new) }
     {
-        self.draw();
+        self.spare = self.spare.saturating_sub(1);
     }
 }

@@ -17,7 +17,13 @@ impl Ledger {
         ensures tokens { tokens (books_of self.new) ≡ tokens (books_of self.old) }
         ensures settled { Settled (books_of self.old) → SettledBut seat (books_of self.new) }
     {
-        self.advance(seat)
+        let Ok(found) = self.find(seat) else {
+            return false;
+        };
+        if found.elapsed < found.plan.meta_period {
+            self.put(seat, found.one_later());
+        }
+        true
     }
 
     // A run was made for a seat that owed one: its account gains the yield.
@@ -26,7 +32,12 @@ impl Ledger {
         ensures tokens { 0 < owes (books_of self.old) seat → tokens (books_of self.new) ≡ tokens (books_of self.old) + self.old.frame.alpha }
         ensures settled { SettledBut seat (books_of self.old) → SettledBut seat (books_of self.new) }
     {
-        self.add_run(seat);
+        let Ok(found) = self.find(seat) else {
+            return;
+        };
+        if found.runs < found.due() {
+            self.put(seat, found.ran(self.frame.alpha));
+        }
     }
 
     // At its meta-period's end a serving seat starts a new one; a seat under notice is emptied, and the pool
@@ -36,7 +47,15 @@ impl Ledger {
         ensures tokens { owes (books_of self.old) seat ≡ 0 → tokens (books_of self.new) ≤ tokens (books_of self.old) }
         ensures settled { seat < 8 → owes (books_of self.old) seat ≡ 0 → SettledBut seat (books_of self.old) → Settled (books_of self.new) }
     {
-        self.close(seat);
+        let Ok(found) = self.find(seat) else {
+            return;
+        };
+        let pool = if found.leaves() {
+            self.pool + (found.plan.writes + self.frame.collector_share())
+        } else {
+            self.pool
+        };
+        self.put_with(seat, found.turned(), pool);
     }
 
     // How many runs the seat still owes for the ticks that have passed. While it owes one, and the other seats are
@@ -45,60 +64,6 @@ impl Ledger {
         ensures value { result ≡ owes (books_of self.now) seat }
         ensures below { 0 < result → SettledBut seat (books_of self.now) → Below (books_of self.now) }
     {
-        self.owed(seat)
-    }
-
-    fn advance(&mut self, seat: u8) -> bool
-        ensures answer { result ≡ used_seat (books_of self.old) seat }
-        ensures books { books_of self.new ≡ stepped (books_of self.old) seat }
-    {
-        let Ok(job) = self.job(seat) else {
-            return false;
-        };
-        if job.elapsed < job.plan.meta_period {
-            self.put(seat, job.one_later());
-        }
-        true
-    }
-
-    fn owed(&self, seat: u8) -> u32
-        ensures { result ≡ owes (books_of self.now) seat }
-    {
-        let Ok(job) = self.job(seat) else {
-            return 0;
-        };
-        job.due() - job.runs
-    }
-
-    fn add_run(&mut self, seat: u8)
-        ensures { books_of self.new ≡ made_one (books_of self.old) seat }
-    {
-        let Ok(job) = self.job(seat) else {
-            return;
-        };
-        if job.runs < job.due() {
-            self.put(seat, job.ran(self.frame.alpha));
-        }
-    }
-
-    fn close(&mut self, seat: u8)
-        ensures { books_of self.new ≡ ended (books_of self.old) seat }
-    {
-        let Ok(job) = self.job(seat) else {
-            return;
-        };
-        let pool = self.given_back(seat, job);
-        self.put_with(seat, job.turned(), pool);
-    }
-
-    // The pool once this seat's tick ends.
-    fn given_back(&self, seat: u8, job: Seat) -> u32
-        requires { Found (books_of self.now) seat job }
-        ensures { result ≡ self.now.pool + (if leaves job then job.plan.writes + collector_share self.now.frame else 0) }
-    {
-        if !job.leaves() {
-            return self.pool;
-        }
-        self.pool + (job.plan.writes + self.collector_share())
+        self.find(seat).map_or(0, |found| found.due() - found.runs)
     }
 }

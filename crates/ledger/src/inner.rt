@@ -11,79 +11,37 @@ use crate::refusal::Refusal;
 use crate::seat::Seat;
 
 impl Ledger {
-    pub(crate) fn warn(&mut self, seat: u8) -> Result<(), Refusal>
-        ensures answer { result ≡ answer (asks_notice (books_of self.old) seat) tt }
-        ensures books { books_of self.new ≡ unless (asks_notice (books_of self.old) seat) (noticed (books_of self.old) seat) (books_of self.old) }
-    {
-        let job = self.done(seat)?;
-        self.put(seat, job.warned());
-        Ok(())
-    }
-
-    pub(crate) fn grant(&mut self, seat: u8) -> Result<(), Refusal>
-        ensures answer { result ≡ answer (asks_take (books_of self.old) seat) tt }
-        ensures books { books_of self.new ≡ unless (asks_take (books_of self.old) seat) (taken (books_of self.old) seat) (books_of self.old) }
-    {
-        let job = self.entitled(seat)?;
-        self.put(seat, job.took());
-        Ok(())
-    }
-
-    pub(crate) fn refund(&mut self, seat: u8) -> Result<(), Refusal>
-        ensures answer { result ≡ answer (asks_return (books_of self.old) seat) tt }
-        ensures books { books_of self.new ≡ unless (asks_return (books_of self.old) seat) (returned (books_of self.old) seat) (books_of self.old) }
-    {
-        let job = self.holder(seat)?;
-        self.put(seat, job.gave_back());
-        Ok(())
-    }
-
-    pub(crate) fn debit(&mut self, seat: u8) -> Result<(), Refusal>
-        ensures answer { result ≡ answer (asks_return (books_of self.old) seat) tt }
-        ensures books { books_of self.new ≡ unless (asks_return (books_of self.old) seat) (spent (books_of self.old) seat) (books_of self.old) }
-    {
-        let job = self.holder(seat)?;
-        self.put(seat, job.saved());
-        Ok(())
-    }
-
-    pub(crate) fn draw(&mut self)
-        ensures { books_of self.new ≡ paid (books_of self.old) }
-    {
-        self.spare = self.spare.saturating_sub(1);
-    }
-
     // The seat of a number, if it serves and its writes are not all charged.
-    fn entitled(&self, seat: u8) -> Result<Seat, Refusal>
+    pub(crate) fn entitled(&self, seat: u8) -> Result<Seat, Refusal>
         ensures answer { result ≡ answer (asks_take (books_of self.now) seat) (seat_of (books_of self.now) seat) }
         ensures found { IfOk result (λ s. Found (books_of self.now) seat s) }
         ensures serves { IfOk result (λ s. is_serving s ≡ true) }
         ensures room { IfOk result (λ s. s.charge < s.plan.writes) }
     {
-        let job = self.job(seat)?;
-        if !job.serves() {
+        let found = self.find(seat)?;
+        if !found.serves() {
             return Err(Refusal::SeatNotServing);
         }
-        if job.charge >= job.plan.writes {
+        if found.charge >= found.plan.writes {
             return Err(Refusal::AllCharged);
         }
-        Ok(job)
+        Ok(found)
     }
 
     // The seat of a number, if it serves and has no permit out.
-    fn done(&self, seat: u8) -> Result<Seat, Refusal>
+    pub(crate) fn done(&self, seat: u8) -> Result<Seat, Refusal>
         ensures answer { result ≡ answer (asks_notice (books_of self.now) seat) (seat_of (books_of self.now) seat) }
         ensures found { IfOk result (λ s. Found (books_of self.now) seat s) }
         ensures out { IfOk result (λ s. s.out ≡ 0) }
     {
-        let job = self.job(seat)?;
-        if !job.serves() {
+        let found = self.find(seat)?;
+        if !found.serves() {
             return Err(Refusal::SeatNotServing);
         }
-        if job.out != 0 {
+        if found.out != 0 {
             return Err(Refusal::PermitsOut);
         }
-        Ok(job)
+        Ok(found)
     }
 
     // The seat of a number, if it is in use and has a permit out.
@@ -92,32 +50,23 @@ impl Ledger {
         ensures found { IfOk result (λ s. Found (books_of self.now) seat s) }
         ensures out { IfOk result (λ s. 0 < s.out) }
     {
-        let job = self.job(seat)?;
-        if job.out == 0 {
+        let found = self.find(seat)?;
+        if found.out == 0 {
             return Err(Refusal::NoPermitOut);
         }
-        Ok(job)
+        Ok(found)
     }
 
     // The seat of a number, if it is in use, and what the books know of it.
-    pub(crate) fn job(&self, seat: u8) -> Result<Seat, Refusal>
+    pub(crate) fn find(&self, seat: u8) -> Result<Seat, Refusal>
         ensures answer { result ≡ answer (ask (used_seat (books_of self.now) seat) SeatNotInUse None) (seat_of (books_of self.now) seat) }
         ensures found { IfOk result (λ s. Found (books_of self.now) seat s) }
     {
-        self.used(seat)
-    }
-
-    fn used(&self, seat: u8) -> Result<Seat, Refusal>
-        ensures { result ≡ answer (ask (used_seat (books_of self.now) seat) SeatNotInUse None) (seat_of (books_of self.now) seat) }
-    {
-        if seat >= 8 {
-            return Err(Refusal::SeatNotInUse);
-        }
-        let found = self.seats[seat as usize];
-        if !found.is_in_use() {
-            return Err(Refusal::SeatNotInUse);
-        }
-        Ok(found)
+        self.seats
+            .get(usize::from(seat))
+            .copied()
+            .filter(|found| found.is_in_use())
+            .ok_or(Refusal::SeatNotInUse)
     }
 
     // Another record for a seat, where the books stay fair with it.

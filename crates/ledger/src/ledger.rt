@@ -3,11 +3,14 @@ ghost use Rattle.ledger.specs.Fair.{Fair};
 use crate::frame::Frame;
 use crate::seat::Seat;
 
+// How many seats there are.
+pub(crate) const SEATS: usize = 8;
+
 // The books of a store: eight seats, the pool that they are admitted from, and the spare account that
 // pays for failed page writes.
 #[derive(Drop)]
 pub struct Ledger {
-    pub(crate) seats: [Seat; 8],
+    pub(crate) seats: [Seat; SEATS],
     pub(crate) pool: u32,
     pub(crate) spare: u32,
     pub(crate) frame: Frame,

@@ -47,31 +47,20 @@ impl Seat {
             plan,
             account: plan.writes,
             collector,
-            charge: 0,
-            out: 0,
-            elapsed: 0,
-            runs: 0,
+            ..Seat::vacant()
         }
     }
 
     pub(crate) fn is_in_use(self) -> bool
         ensures { result ≡ in_use self }
     {
-        match self.status {
-            Status::Empty => false,
-            Status::Serving => true,
-            Status::OnNotice => true,
-        }
+        self.status != Status::Empty
     }
 
     pub(crate) fn serves(self) -> bool
         ensures { result ≡ is_serving self }
     {
-        match self.status {
-            Status::Empty => false,
-            Status::Serving => true,
-            Status::OnNotice => false,
-        }
+        self.status == Status::Serving
     }
 
     pub(crate) fn warned(self) -> Seat
@@ -151,11 +140,7 @@ impl Seat {
     pub(crate) fn leaves(self) -> bool
         ensures { result ≡ leaves self }
     {
-        match self.status {
-            Status::Empty => false,
-            Status::Serving => false,
-            Status::OnNotice => self.elapsed == self.plan.meta_period,
-        }
+        self.status == Status::OnNotice && self.elapsed == self.plan.meta_period
     }
 
     pub(crate) fn turned(self) -> Seat

@@ -1,35 +1,12 @@
 // The books as an opening makes them.
-ghost use Rattle.std.specs.Prelude.{◌≡◌, if◌then◌else◌, Some, None};
+ghost use Rattle.std.specs.Prelude.{◌≡◌, if◌then◌else◌, true, Some, None};
 ghost use Rattle.std.specs.Option.{option_map};
 ghost use Rattle.ledger.specs.Fair.{idle, opened, stands};
 ghost use Rattle.ledger.specs.Of.{books_of};
 
 use crate::frame::Frame;
-use crate::ledger::Ledger;
+use crate::ledger::{Ledger, SEATS};
 use crate::seat::Seat;
-use plan::yield_rule;
-
-impl Frame {
-    // Can a ledger be opened with this frame?
-    pub(crate) fn stands(self) -> bool
-        ensures { result ≡ stands self }
-    {
-        if self.alpha < 1
-            || self.alpha > self.pages_per_block
-            || self.pages_per_block > 32
-            || self.blocks > 64
-        {
-            return false;
-        }
-        yield_rule(
-            u64::from(self.blocks),
-            u64::from(self.pages_per_block),
-            u64::from(self.numbers),
-            u64::from(self.pool) + u64::from(self.allowance),
-            u64::from(self.alpha),
-        )
-    }
-}
 
 impl Ledger {
     // Eight empty seats, the whole pool, and the allowance in the spare account; nothing where the frame does
@@ -37,36 +14,40 @@ impl Ledger {
     pub fn opened(frame: Frame) -> Option<Ledger>
         ensures { option_map books_of result ≡ (if stands frame then Some (opened frame) else None) }
     {
-        if !frame.stands() {
-            return None;
+        if frame.stands() {
+            Some(Ledger::fresh(frame))
+        } else {
+            None
         }
-        Some(Ledger {
-            seats: [Seat::vacant(); 8],
-            pool: frame.pool,
-            spare: frame.allowance,
-            frame,
-        })
     }
 
     // The books of a store that is shut: no tokens at all.
     pub fn idle() -> Ledger
         ensures { books_of result ≡ opened idle }
     {
-        Ledger {
-            seats: [Seat::vacant(); 8],
+        Ledger::fresh(Frame {
+            blocks: 2,
+            pages_per_block: 2,
+            page_size: 1,
+            allowance: 0,
+            numbers: 1,
+            alpha: 1,
             pool: 0,
-            spare: 0,
-            frame: Frame {
-                blocks: 2,
-                pages_per_block: 2,
-                page_size: 1,
-                allowance: 0,
-                numbers: 1,
-                alpha: 1,
-                pool: 0,
-            },
+        })
+    }
+
+    fn fresh(frame: Frame) -> Ledger
+        requires { stands frame ≡ true }
+        ensures { books_of result ≡ opened frame }
+    {
+        Ledger {
+            seats: [Seat::vacant(); SEATS],
+            pool: frame.pool,
+            spare: frame.allowance,
+            frame,
         }
     }
+
     // What the opening fixed.
     pub fn frame(&self) -> Frame
         ensures { result ≡ (books_of self.now).frame }

@@ -19,17 +19,16 @@ impl Ledger {
     pub fn seat(&self, seat: u8) -> Seat
         ensures { result ≡ seat_of (books_of self.now) seat }
     {
-        if seat < 8 {
-            self.seats[seat as usize]
-        } else {
-            Seat::vacant()
-        }
+        self.seats
+            .get(usize::from(seat))
+            .copied()
+            .unwrap_or(Seat::vacant())
     }
 
     pub fn in_use(&self, seat: u8) -> bool
         ensures { result ≡ used_seat (books_of self.now) seat }
     {
-        self.job(seat).is_ok()
+        self.find(seat).is_ok()
     }
 
     // All tokens: of the pool, the spare account, the seats and their collectors. Never more than the yield rule
@@ -38,6 +37,6 @@ impl Ledger {
         ensures value { result ≡ tokens (books_of self.now) }
         ensures cap { Below (books_of self.now) → result ≤ highest (books_of self.now) }
     {
-        self.total()
+        self.pool + self.spare + self.held()
     }
 }

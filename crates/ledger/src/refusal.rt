@@ -5,32 +5,32 @@ ghost use Rattle.ledger.specs.Refusals.{number};
 #[derive(Clone, Copy, PartialEq, Eq, Debug)]
 pub enum Refusal {
     // open
-    AlreadyOpen,
-    BlocksOutOfRange,
-    NumbersOutOfRange,
-    AlphaOutOfRange,
-    YieldRuleFails,
+    AlreadyOpen = 1,
+    BlocksOutOfRange = 2,
+    NumbersOutOfRange = 3,
+    AlphaOutOfRange = 4,
+    YieldRuleFails = 5,
     // every other call
-    NotOpen,
+    NotOpen = 6,
     // admit
-    NoSuchSeat,
-    SeatInUse,
-    JobOutOfRange,
-    PoolTooSmall,
-    YieldRuleWouldFail,
+    NoSuchSeat = 7,
+    SeatInUse = 8,
+    JobOutOfRange = 9,
+    PoolTooSmall = 10,
+    YieldRuleWouldFail = 11,
     // a call on a seat
-    SeatNotInUse,
-    SeatNotServing,
-    AllCharged,
-    PermitsOut,
-    NoPermitOut,
+    SeatNotInUse = 12,
+    SeatNotServing = 13,
+    AllCharged = 14,
+    PermitsOut = 15,
+    NoPermitOut = 16,
     // save and read
-    NoSuchNumber,
-    DataTooLong,
-    NothingStored,
-    BufferTooShort,
+    NoSuchNumber = 17,
+    DataTooLong = 18,
+    NothingStored = 19,
+    BufferTooShort = 20,
     // never answered by a store that was only used through its calls: its tables and its chip disagree
-    TablesDisagree,
+    TablesDisagree = 99,
 }
 
 impl Refusal {
@@ -38,28 +38,6 @@ impl Refusal {
     pub fn number(self) -> u8
         ensures { result ≡ number self }
     {
-        match self {
-            Refusal::AlreadyOpen => 1,
-            Refusal::BlocksOutOfRange => 2,
-            Refusal::NumbersOutOfRange => 3,
-            Refusal::AlphaOutOfRange => 4,
-            Refusal::YieldRuleFails => 5,
-            Refusal::NotOpen => 6,
-            Refusal::NoSuchSeat => 7,
-            Refusal::SeatInUse => 8,
-            Refusal::JobOutOfRange => 9,
-            Refusal::PoolTooSmall => 10,
-            Refusal::YieldRuleWouldFail => 11,
-            Refusal::SeatNotInUse => 12,
-            Refusal::SeatNotServing => 13,
-            Refusal::AllCharged => 14,
-            Refusal::PermitsOut => 15,
-            Refusal::NoPermitOut => 16,
-            Refusal::NoSuchNumber => 17,
-            Refusal::DataTooLong => 18,
-            Refusal::NothingStored => 19,
-            Refusal::BufferTooShort => 20,
-            Refusal::TablesDisagree => 99,
-        }
+        self as u8
     }
 }

@@ -1,24 +1,11 @@
 // Sums over the books.
 ghost use Rattle.std.specs.Prelude.{◌≡◌, ◌*◌, ◌≤◌};
-ghost use Rattle.ledger.specs.Books.{collector_share, extra, held, highest, tokens};
+ghost use Rattle.ledger.specs.Books.{extra, held, highest, tokens};
 ghost use Rattle.ledger.specs.Of.{books_of};
 
 use crate::ledger::Ledger;
 
 impl Ledger {
-    // What each collector holds.
-    pub(crate) fn collector_share(&self) -> u32
-        ensures { result ≡ collector_share (books_of self.now).frame }
-    {
-        self.frame.pages_per_block - self.frame.alpha
-    }
-
-    pub(crate) fn total(&self) -> u32
-        ensures { result ≡ tokens (books_of self.now) }
-    {
-        self.pool + self.spare + self.held()
-    }
-
     // The most tokens that can be out when a block is chosen.
     pub(crate) fn highest(&self) -> u32
         ensures value { result ≡ highest (books_of self.now) }
@@ -27,12 +14,12 @@ impl Ledger {
         self.frame.pool + self.frame.allowance + self.extra()
     }
 
-    fn held(&self) -> u32
+    pub(crate) fn held(&self) -> u32
         ensures sum { result ≡ held self.now.seats }
         ensures bound { result ≤ 8 * 33824 }
     {
         let mut sum = 0;
-        for seat in self.seats.iter() {
+        for seat in &self.seats {
             sum += seat.account + seat.collector;
         }
         sum
@@ -43,7 +30,7 @@ impl Ledger {
         ensures bound { result ≤ 8 * 32736 }
     {
         let mut sum = 0;
-        for seat in self.seats.iter() {
+        for seat in &self.seats {
             if seat.is_in_use() {
                 sum += (seat.plan.runs - 1) * self.frame.alpha;
             }

@@ -1,4 +1,5 @@
 use ledger::{Frame, Ledger, Refusal};
+use plan::Job;
 use std::test::Fail;
 
 // Four blocks of four pages, one failure allowed, five page numbers, a yield of two and a pool of four.
@@ -22,7 +23,7 @@ fn number_of(answer: Result<(), Refusal>) -> u8 {
 
 // The plan of an admission, or the number of its refusal.
 fn admitted(ledger: &mut Ledger, seat: u8, period: u32, writes: u32) -> (u32, u32, u32) {
-    match ledger.admit(seat, period, writes) {
+    match ledger.admit(seat, Job { period, writes }) {
         Ok(plan) => (plan.meta_period, plan.writes, plan.runs),
         Err(refusal) => (0, 0, u32::from(refusal.number())),
     }

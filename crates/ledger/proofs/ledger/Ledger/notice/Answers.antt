@@ -1,11 +1,17 @@
+use Rattle.std.proofs.Common.{rules}
+use Rattle.ledger.proofs.Puts.{put_as, warned_put}
 use Rattle.ledger.proofs.Facts.{fair_of}
 use Rattle.ledger.proofs.Kept.{notice_keeps}
 use Rattle.ledger.proofs.ledger.Ledger.notice.Goals as goal
 
-pub returns : goal.returns
-returns c =
+pub put-requires : goal.put-requires
+put-requires c =
+    let l = c.args.self.now in
+    let told = c.in_ok-found.ensures in
     record {
-      answer = c.warn.ensures.answer;
-      books = c.warn.ensures.books;
-      law = notice_keeps (fair_of c.args.self.now) c.args.seat c.warn.ensures.books;
+      within = told.found.there;
+      fair = put_as l told.found c.warned.ensures (warned_put l told.found told.out);
     }
+
+pub returns-clause-law : goal.returns-clause-law
+returns-clause-law c = notice_keeps (fair_of c.args.self.now) c.args.seat (search rules)

@@ -1,12 +1,35 @@
+use Rattle.std.proofs.Common.{rules, ◌<◌, ◌≤◌, mul-le-mul, arith}
+use Rattle.ledger.specs.Seats.{due}
+use Rattle.ledger.specs.Of.{books_of}
 use Rattle.ledger.proofs.Facts.{fair_of}
+use Rattle.ledger.proofs.Jobs.{account_within, due_within}
+use Rattle.ledger.proofs.Puts.{put_as, ran_put}
 use Rattle.ledger.proofs.Kept.{run_adds, run_unsettles}
 use Rattle.ledger.proofs.ledger.Ledger.ran.Goals as goal
 
-pub returns : goal.returns
-returns c =
-    let fair = fair_of c.args.self.now in
+pub ran-requires : goal.ran-requires
+ran-requires c =
+    let b = fair_of c.args.self.now in
+    let j = c.in-Ok.ensures.found.fair in
+    let most = account_within j in
+    let made = due_within j in
+    let small : c.args.self.now.frame.alpha ≤ 32 = omega (arith, b.yields_within, b.small_blocks) in
+    let few : c.in-Ok.found.runs ≤ 1024 = omega (arith, j.runs_few) in
+    let won = mul-le-mul small few in
+    (omega (arith, j.writes_few, b.yields_within, b.small_blocks), omega (arith, j.runs_few))
+
+pub put-requires : goal.put-requires
+put-requires c =
+    let l = c.args.self.now in
+    let found = c.in-Ok.ensures.found in
+    let more : c.in-Ok.found.runs < due c.in-Ok.found = omega arith in
     record {
-      books = c.add_run.ensures;
-      tokens = run_adds fair c.args.seat c.add_run.ensures;
-      settled = run_unsettles fair c.args.seat c.add_run.ensures;
+      within = found.there;
+      fair = put_as l found c.ran.ensures (ran_put l found more);
     }
+
+pub returns-then-found-due-clause-tokens : goal.returns-then-found-due-clause-tokens
+returns-then-found-due-clause-tokens c = run_adds {c = books_of c.put.new.self} (fair_of c.args.self.now) c.args.seat (search rules)
+
+pub returns-then-found-due-clause-settled : goal.returns-then-found-due-clause-settled
+returns-then-found-due-clause-settled c = run_unsettles {c = books_of c.put.new.self} (fair_of c.args.self.now) c.args.seat (search rules)

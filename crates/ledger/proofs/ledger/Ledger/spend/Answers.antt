@@ -1,11 +1,21 @@
+use Rattle.std.proofs.Common.{rules, Ok}
+use Rattle.ledger.proofs.Jobs.{out_paid}
+use Rattle.ledger.proofs.Puts.{put_as, saved_put}
 use Rattle.ledger.proofs.Facts.{fair_of}
 use Rattle.ledger.proofs.Kept.{spend_keeps}
 use Rattle.ledger.proofs.ledger.Ledger.spend.Goals as goal
 
-pub returns : goal.returns
-returns c =
+pub saved-requires : goal.saved-requires
+saved-requires c = let told = c.in_ok-found.ensures in (told.out, out_paid told.found.fair)
+
+pub put-requires : goal.put-requires
+put-requires c =
+    let l = c.args.self.now in
+    let told = c.in_ok-found.ensures in
     record {
-      answer = c.debit.ensures.answer;
-      books = c.debit.ensures.books;
-      law = spend_keeps (fair_of c.args.self.now) c.args.seat c.debit.result c.debit.ensures.answer c.debit.ensures.books;
+      within = told.found.there;
+      fair = put_as l told.found c.saved.ensures (saved_put l told.found told.out);
     }
+
+pub returns-clause-law : goal.returns-clause-law
+returns-clause-law c = spend_keeps (fair_of c.args.self.now) c.args.seat (Ok tt) (search rules) (search rules)

@@ -1,11 +1,17 @@
+use Rattle.std.proofs.Common.{rules}
+use Rattle.ledger.proofs.Puts.{put_as, took_put}
 use Rattle.ledger.proofs.Facts.{fair_of}
 use Rattle.ledger.proofs.Kept.{take_keeps}
 use Rattle.ledger.proofs.ledger.Ledger.take.Goals as goal
 
-pub returns : goal.returns
-returns c =
+pub put-requires : goal.put-requires
+put-requires c =
+    let l = c.args.self.now in
+    let told = c.in_ok-found.ensures in
     record {
-      answer = c.grant.ensures.answer;
-      books = c.grant.ensures.books;
-      law = take_keeps (fair_of c.args.self.now) c.args.seat c.grant.ensures.books;
+      within = told.found.there;
+      fair = put_as l told.found c.took.ensures (took_put l told.found told.serves told.room);
     }
+
+pub returns-clause-law : goal.returns-clause-law
+returns-clause-law c = take_keeps (fair_of c.args.self.now) c.args.seat (search rules)

@@ -1,11 +1,23 @@
-use Rattle.std.proofs.Common.{◌≤◌, sym, subst}
-use Rattle.ledger.specs.Books.{highest}
-use Rattle.ledger.specs.Of.{books_of}
+use Rattle.std.proofs.Common.{arith}
+use Rattle.ledger.proofs.Ends.{tokens_few}
 use Rattle.ledger.proofs.Facts.{fair_of}
+use Rattle.ledger.specs.Of.{books_of}
 use Rattle.ledger.proofs.Tokens.{tokens_capped}
 use Rattle.ledger.proofs.ledger.Ledger.tokens.Goals as goal
 
-pub returns : goal.returns
-returns c =
+pub overflow_add-result : goal.overflow_add-result
+overflow_add-result c =
+    let b = fair_of c.args.self.now in
+    let few = tokens_few b in
+    omega (arith, b.lent_out, b.spare_within)
+
+pub overflow_add-result-2 : goal.overflow_add-result-2
+overflow_add-result-2 c =
+    let b = fair_of c.args.self.now in
+    let few = tokens_few b in
+    omega (arith, b.lent_out, b.spare_within)
+
+pub returns-clause-cap : goal.returns-clause-cap
+returns-clause-cap c =
     let l = c.args.self.now in
-    record { value = c.total.ensures; cap = λ below. subst (λ n. n ≤ highest (books_of l)) (sym c.total.ensures) (tokens_capped (books_of l) (fair_of l) below) }
+    λ below. (let capped = tokens_capped (books_of l) (fair_of l) below in omega arith)
