@@ -1,22 +1,17 @@
 -- A call on the ledger alone leaves the store sound. Assumes nothing.
-use Rattle.std.proofs.Common.{◌≡◌, ℕ, ◌<◌, ◌≤◌, Bool, true, Some, None, Ok, Err, MatchBool, Option, Result, sym, refl, ap, ◌∙◌, subst, arith}
+use Rattle.std.proofs.Common.{◌≡◌, ◌<◌, ◌≤◌, true, Some, None, MatchBool, Option, sym, refl, ap, ◌∙◌, subst}
 use Rattle.chip.specs.Meaning.{Meaning}
 use Rattle.ledger.specs.declared.frame.Frame.{Frame}
 use Rattle.ledger.specs.declared.refusal.Refusal.{Refusal}
-use Rattle.plan.specs.declared.numbers.Plan.{Plan}
-use Rattle.plan.specs.Plan.{plan_of}
 use Rattle.ledger.specs.declared.ledger.Ledger.{Ledger}
-use Rattle.ledger.specs.Books.{Books, tokens, answer, unless, asks_admit, asks_notice, asks_take, asks_return, admitted, noticed, taken, returned}
+use Rattle.ledger.specs.Books.{Books, tokens, unless}
 use Rattle.ledger.specs.Keeps.{Keeps}
-use Rattle.ledger.proofs.Facts.{fair_of}
-use Rattle.ledger.proofs.Kept.{admit_keeps, notice_keeps, take_keeps, return_keeps}
 use Rattle.ledger.specs.Of.{books_of}
 use Rattle.pages.specs.declared.tables.Tables.{Tables}
 use Rattle.pages.specs.Recycle.{all_free}
-use Rattle.store.specs.State.{Standing}
-use Rattle.store.specs.State.{SoundAt, OpenSound, Sound}
-use Rattle.store.specs.declared.store.Permit.{Permit}
-use Rattle.store.specs.Effects.{if_open, SameButBooks, Booked, Admits, Notices, Takes, Returns}
+use Rattle.store.specs.declared.open.Open.{Open}
+use Rattle.store.specs.State.{SoundAt, Standing, standing, OpenSound, Sound}
+use Rattle.store.specs.Effects.{if_open, SameButBooks, Booked}
 
 -- other books with the same frame, as much in the spare account and as many tokens
 pub sound_at : {m n : Meaning} {b c : Books} {t u : Tables} → n ≡ m → u ≡ t → c.frame ≡ b.frame → c.spare ≡ b.spare → tokens c ≡ tokens b → SoundAt m b t → SoundAt n c u
@@ -34,11 +29,6 @@ sound_at {m} {n} {b} {c} {t} {u} chip tables frame spare same at =
       spare = subst (λ x. m.allowance ≤ x) (sym spare) at.spare;
       room = subst (λ x. x ≤ all_free m) (sym same) at.room;
     }))
-
--- the permit that goes with a yes
-abbrev pub permitted : Result (Unit {0}) Refusal → ℕ → Result Permit Refusal
-permitted (Ok x) i = Ok (record { seat = i })
-permitted (Err e) i = Err e
 
 module _ {H : Type 0} (s : Standing H) where
   pub sound_open : s.is_open ≡ true → Sound s → OpenSound s
@@ -71,8 +61,22 @@ module _ {H : Type 0} {s t : Standing H} where
       by_spare None e = ap (λ (x : Books). x.spare) e ∙ spare
       by_spare (Some r) e = ap (λ (x : Books). x.spare) e
 
-pub told_open : {X : Type 0} (is_open : Bool) (q : Option Refusal) (x : X) (r : Result X Refusal) → is_open ≡ true → r ≡ answer q x → r ≡ answer (if_open is_open q) x
-told_open is_open q x r is told = told ∙ ap (λ o. answer (if_open o q) x) (sym is)
+-- what a store that is open keeps, where a call on the ledger alone kept the ledger's promises
+module _ {H : Type 0} {m : Meaning} {c : H} {was : Option Open} {o : Open} (is : was ≡ Some o) (sound : Sound (standing m c was)) where
+  pub opened_sound : OpenSound (standing m c (Some o))
+  opened_sound = subst (λ (x : Option Open). Sound (standing m c x)) is sound
+
+  -- what is true of the open store is true of the store
+  pub from_open : (P : Standing H → Type 0) → P (standing m c (Some o)) → P (standing m c was)
+  from_open P p = subst (λ (x : Option Open). P (standing m c x)) (sym is) p
+
+  pub ledger_sound : (l : Ledger) (q : Option Refusal) (after : Books) → books_of l ≡ unless q after (books_of o.ledger)
+      → after.frame ≡ o.ledger.frame → after.spare ≡ o.ledger.spare → Keeps (books_of o.ledger) (books_of l) → OpenSound (standing m c (Some (record { ledger = l; tables = o.tables })))
+  ledger_sound l q after made frame spare keeps =
+      let s = standing m c (Some o) in
+      let t = standing m c (Some (record { ledger = l; tables = o.tables })) in
+      let rest : SameButBooks s t = record { chip = refl; chooser = refl; is_open = refl; tables = refl } in
+      (booked q after refl rest made frame spare keeps).sound opened_sound
 
 module _ {H : Type 0} (s : Standing H) where
   -- the same store with another ledger
@@ -81,45 +85,3 @@ module _ {H : Type 0} (s : Standing H) where
 
   pub beside : (l : Ledger) → SameButBooks s (with_ledger l)
   beside l = record { chip = refl; chooser = refl; is_open = refl; tables = refl }
-
-  module _ (is : s.is_open ≡ true) (l : Ledger) (i : ℕ) where
-    pub admits_on : (p w : ℕ) (r : Result Plan Refusal) → r ≡ answer (asks_admit (books_of s.ledger) i p w) (plan_of s.ledger.frame.alpha p w)
-        → books_of l ≡ unless (asks_admit (books_of s.ledger) i p w) (admitted (books_of s.ledger) i (plan_of s.ledger.frame.alpha p w)) (books_of s.ledger)
-        → Admits s i p w r (with_ledger l)
-    admits_on p w r told made =
-        let b = books_of s.ledger in
-        let plan = plan_of s.ledger.frame.alpha p w in (
-          told_open s.is_open (asks_admit b i p w) plan r is told,
-          booked (asks_admit b i p w) (admitted b i plan) is (beside l) made refl refl (admit_keeps (fair_of s.ledger) i p w made),
-        )
-
-    pub notices_on : (r : Result (Unit {0}) Refusal) → r ≡ answer (asks_notice (books_of s.ledger) i) tt → books_of l ≡ unless (asks_notice (books_of s.ledger) i) (noticed (books_of s.ledger) i) (books_of s.ledger)
-        → Notices s i r (with_ledger l)
-    notices_on r told made =
-        let b = books_of s.ledger in (
-          told_open s.is_open (asks_notice b i) tt r is told,
-          booked (asks_notice b i) (noticed b i) is (beside l) made refl refl (notice_keeps (fair_of s.ledger) i made),
-        )
-
-    pub returns_on : (r : Result (Unit {0}) Refusal) → r ≡ answer (asks_return (books_of s.ledger) i) tt → books_of l ≡ unless (asks_return (books_of s.ledger) i) (returned (books_of s.ledger) i) (books_of s.ledger)
-        → Returns s i r (with_ledger l)
-    returns_on r told made =
-        let b = books_of s.ledger in (
-          told_open s.is_open (asks_return b i) tt r is told,
-          booked (asks_return b i) (returned b i) is (beside l) made refl refl (return_keeps (fair_of s.ledger) i made),
-        )
-
-    -- the permit for the ledger's bare yes
-    pub with_permit : (q : Option Refusal) (r : Result (Unit {0}) Refusal) → r ≡ answer q tt → permitted r i ≡ answer q (record { seat = i })
-    with_permit None (Ok x) told = refl
-    with_permit None (Err e) told = (let z : ◌≡◌ {A = ℕ} 0 1 = cc in absurd (omega arith))
-    with_permit (Some e) (Ok x) told = (let z : ◌≡◌ {A = ℕ} 0 1 = cc in absurd (omega arith))
-    with_permit (Some e) (Err d) told = cc
-
-    pub takes_on : (r : Result (Unit {0}) Refusal) → r ≡ answer (asks_take (books_of s.ledger) i) tt → books_of l ≡ unless (asks_take (books_of s.ledger) i) (taken (books_of s.ledger) i) (books_of s.ledger)
-        → Takes s i (permitted r i) (with_ledger l)
-    takes_on r told made =
-        let b = books_of s.ledger in (
-          told_open s.is_open (asks_take b i) (record { seat = i }) (permitted r i) is (with_permit (asks_take b i) r told),
-          booked (asks_take b i) (taken b i) is (beside l) made refl refl (take_keeps (fair_of s.ledger) i made),
-        )

@@ -1,14 +1,15 @@
 -- A whole tick.
-use Rattle.std.proofs.Common.{◌≡◌, ℕ, true, false, MatchBool, sym, ◌∙◌, subst, arith}
-use Rattle.chip.specs.Meaning.{Meaning, Shaped}
+use Rattle.std.proofs.Common.{◌≡◌, ℕ, true, false, [], Ok, Err, Result, MatchBool, sym, ◌∙◌, subst, arith}
+use Rattle.std.proofs.lemmas.Bool.{true≢false}
+use Rattle.chip.specs.Meaning.{Shaped}
+use Rattle.ledger.specs.declared.refusal.Refusal.{Refusal}
 use Rattle.ledger.specs.Of.{books_of}
 use Rattle.history.specs.History.{History}
 use Rattle.pages.proofs.Writing.{few_failures}
-use Rattle.store.specs.State.{Standing}
 use Rattle.store.specs.declared.ticked.Ticked.{Ticked}
-use Rattle.store.specs.State.{OpenSound, Sound}
+use Rattle.store.specs.State.{Standing, OpenSound, Sound}
 use Rattle.store.specs.Tick.{Walk, begun}
-use Rattle.store.specs.Effects.{desk_of, Passed}
+use Rattle.store.specs.Effects.{desk_of, Passed, Ticks}
 use Rattle.store.specs.Walking.{Walked}
 use Rattle.store.proofs.Serving.{walked_none}
 
@@ -39,3 +40,8 @@ module _ {H : Type 0} where
           sound = sound_of t (y.between.is_open ∙ opened) (record { at = y.between.sound; settled = y.settled });
         },
       )
+
+  -- an open store is sound after its tick, whatever the tick answers
+  pub ticked_sound : (s t : Standing H) (r : Result Ticked Refusal) → s.is_open ≡ true → t.is_open ≡ true → Ticks s r t → OpenSound t
+  ticked_sound s t (Ok k) is after did = open_of t after (did []).1.sound
+  ticked_sound s t (Err e) is after did = absurd (true≢false (sym is ∙ did.0))

@@ -1,6 +1,5 @@
 -- Every history that the calls of a store can make keeps the promise.
 use Rattle.std.proofs.Common.{◌≡◌, Bool, true, false, [], MatchBool, sym, refl, subst}
-use Rattle.chip.specs.Meaning.{Meaning}
 use Rattle.ledger.specs.Books.{seat_of}
 use Rattle.ledger.specs.Of.{books_of}
 use Rattle.history.specs.History.{History}

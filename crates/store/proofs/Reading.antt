@@ -1,5 +1,5 @@
 -- A read, over plain values. Assumes nothing.
-use Rattle.std.proofs.Common.{◌≡◌, ℕ, ◌<◌, Bool, true, cond, ltb, leb, List, length, Some, Ok, Err, Option, Result, sym, ap, ◌∙◌, inl, inr, arith}
+use Rattle.std.proofs.Common.{◌≡◌, ℕ, ◌<◌, Bool, true, cond, ltb, leb, List, length, Some, Ok, Err, Option, Result, sym, refl, ap, ◌∙◌, subst, inl, inr, arith}
 use Rattle.std.proofs.lemmas.List.{get_or_default}
 use Rattle.std.proofs.lemmas.Bool.{cases_lt, cond-true, cond-false, lt-ltb, le-leb, lt-leb}
 use Rattle.chip.specs.declared.words.Refusal.{Refusal as ChipRefusal}
@@ -11,10 +11,10 @@ use Rattle.ledger.specs.Books.{Books}
 use Rattle.ledger.specs.Of.{books_of}
 use Rattle.pages.specs.declared.tables.Tables.{Tables}
 use Rattle.pages.specs.Tied.{maps_of, Tied}
-use Rattle.store.specs.State.{Standing}
-use Rattle.store.specs.State.{Sound}
+use Rattle.store.specs.declared.open.Open.{Open}
+use Rattle.store.specs.State.{Standing, standing, Sound}
 use Rattle.store.specs.Effects.{stored_at, read_from, read_told, Same, Reads}
-use Rattle.store.proofs.Booking.{sound_open}
+use Rattle.store.proofs.Booking.{sound_open, opened_sound}
 
 -- the page that the map names, and what a fetch from it tells
 pub record ReadPage (m : Meaning) (q room : ℕ) (r : Result (ℕ × ℕ) ChipRefusal) : Type 0 where
@@ -64,3 +64,12 @@ module _ {H : Type 0} (s t : Standing H) (n : ℕ) (before after : List ℕ) whe
         stays,
         same,
       )
+
+-- the same of a store that has its parts
+module _ {H : Type 0} (m m' : Meaning) (c : H) {was : Option Open} {o : Open} (is : was ≡ Some o) (sound : Sound (standing m c was)) (n : ℕ) (before after : List ℕ) where
+  pub short : m' ≡ m → n < o.ledger.frame.numbers → (q : ℕ) → (n < 1920 → Some q ≡ maps_of o.tables n)
+      → (e : ChipRefusal) → Err e ≡ fetched m q (length before) → after ≡ before → Reads (standing m c was) n before (Err BufferTooShort) (standing m' c was) after
+  short same known q named e told stays =
+      subst (λ (x : Option Open). Reads (standing m c x) n before (Err BufferTooShort) (standing m' c x) after) (sym is)
+      (too_short (standing m c (Some o)) (standing m' c (Some o)) n before after refl (record { rest = record { chip = same; chooser = refl; is_open = refl; tables = refl }; ledger = refl })
+      known q named (opened_sound is sound) e told stays)

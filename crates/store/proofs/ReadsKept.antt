@@ -3,7 +3,7 @@ use Rattle.std.proofs.Common.{◌≡◌, ℕ, Bool, true, false, cond, ltb, leb,
 use lib.Seq.{take-append_seam}
 use Rattle.std.proofs.lemmas.List.{get_or_default}
 use Rattle.std.proofs.lemmas.Bool.{ltb-false, leb-true, leb-false}
-use Rattle.chip.specs.Meaning.{free, spoiled, written, Meaning, page_at}
+use Rattle.chip.specs.Meaning.{free, spoiled, written, page_at}
 use Rattle.chip.specs.Calls.{data_of}
 use Rattle.ledger.specs.declared.refusal.Refusal.{Refusal}
 use Rattle.ledger.specs.declared.refusal.Refusal.TheVariants.{NoSuchNumber, BufferTooShort}

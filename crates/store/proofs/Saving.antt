@@ -23,12 +23,12 @@ use Rattle.history.proofs.Laws.{write_costs}
 use Rattle.pages.specs.declared.tables.Tables.{Tables}
 use Rattle.pages.specs.Search.{over}
 use Rattle.pages.specs.Tied.{maps_of, page_in}
-use Rattle.pages.specs.Write.{CanWrite, Wrote, Writes}
+use Rattle.pages.specs.Write.{CanWrite, Wrote}
 use Rattle.pages.specs.Recycle.{all_free}
-use Rattle.store.specs.State.{Standing}
-use Rattle.store.specs.State.{paid_for, SoundAt, Sound}
+use Rattle.store.specs.declared.open.Open.{Open}
+use Rattle.store.specs.State.{Standing, standing, paid_for, SoundAt, OpenSound, Sound}
 use Rattle.store.specs.Effects.{asks_page, asks_save, and_then, if_open, Saves}
-use Rattle.store.proofs.Booking.{sound_open, open_sound, sound_on, with_ledger, beside}
+use Rattle.store.proofs.Booking.{sound_open, open_sound, sound_on, opened_sound, from_open, with_ledger, beside}
 
 -- ---- what the spare account pays
 
@@ -155,13 +155,12 @@ module _ {H : Type 0} (s t : Standing H) (i n : ℕ) (d : List ℕ) where
       )
 
   -- the ways that are never taken
-  pub never_stuck : (n' : Meaning) (u : Tables) → asks_save s.is_open (books_of s.ledger) i n (length d) ≡ None → Sound s
-      → (CanWrite s.chip s.tables None n (length d) → Writes s.chip s.tables None n d None n' u) → ⊥
-  never_stuck n' u none sound writes =
+  pub never_stuck : asks_save s.is_open (books_of s.ledger) i n (length d) ≡ None → Sound s → (CanWrite s.chip s.tables None n (length d) → ⊥) → ⊥
+  never_stuck none sound refused =
       let b = books_of s.ledger in
       let granted = save_granted s.is_open b i n (length d) none in
       let o = sound_open s granted.is sound in
-      writes (can_store s.chip b s.tables i n (length d) (fair_of s.ledger) o.at granted.out granted.known granted.fits)
+      refused (can_store s.chip b s.tables i n (length d) (fair_of s.ledger) o.at granted.out granted.known granted.fits)
 
   pub never_unpaid : asks_save s.is_open (books_of s.ledger) i n (length d) ≡ None → (paying : Ledger) (failed : ℕ) (e : Refusal) → books_of paying ≡ paid_for failed (books_of s.ledger)
       → ◌≡◌ {A = Result (Unit {0}) Refusal} (Err e) (answer (asks_return (books_of paying) i) tt) → ⊥
@@ -227,3 +226,29 @@ module _ {H : Type 0} (s : Standing H) (i n : ℕ) (d : List ℕ) (is : s.is_ope
   asked_all x y out told =
       let b = books_of s.ledger in
       ap (λ o. if_open o (and_then (asks_return b i) (asks_page b n (length d)))) is ∙ ap (λ q. and_then q (asks_page b n (length d))) (none_by (asks_return b i) x out) ∙ none_by (asks_page b n (length d)) y told
+
+-- a whole save of an open store: seat, number and length were found good
+module _ {H : Type 0} (m : Meaning) (c : H) {was : Option Open} {o : Open} (is : was ≡ Some o) (sound : Sound (standing m c was)) (i n : ℕ) (d : List ℕ) {x y : Unit {0}}
+    (out : ◌≡◌ {A = Result (Unit {0}) Refusal} (Ok x) (answer (asks_return (books_of o.ledger) i) tt)) (fits : ◌≡◌ {A = Result (Unit {0}) Refusal} (Ok y) (answer (asks_page (books_of o.ledger) n (length d)) tt)) where
+  none : asks_save true (books_of o.ledger) i n (length d) ≡ None
+  none = asked_all (standing m c (Some o)) i n d refl x y out fits
+
+  module _ (m' : Meaning) (u : Tables) where
+    pub always_written : (CanWrite m o.tables None n (length d) → ⊥) → ⊥
+    always_written refused = never_stuck (standing m c (Some o)) (standing m c (Some o)) i n d none (opened_sound is sound) refused
+
+    module _ (tries : ℕ) (paying l : Ledger) (failed : ℕ) (less : failed ≡ tries - 1) (writes : CanWrite m o.tables None n (length d) → Wrote m o.tables None n d tries m' u)
+        (paid : books_of paying ≡ paid_for failed (books_of o.ledger)) (made : books_of l ≡ unless (asks_return (books_of paying) i) (spent (books_of paying) i) (books_of paying)) where
+      done : Saves (standing m c (Some o)) i n d (Ok tries) (standing m' c (Some (record { ledger = l; tables = u })))
+      done = saves_on (standing m c (Some o)) (standing m' c (Some (record { ledger = l; tables = u }))) i n d none (opened_sound is sound) tries paying failed less writes refl refl paid made
+
+      pub saved : Saves (standing m c was) i n d (Ok tries) (standing m' c (Some (record { ledger = l; tables = u })))
+      saved = from_open is sound (λ z. Saves z i n d (Ok tries) (standing m' c (Some (record { ledger = l; tables = u })))) done
+
+      pub saved_sound : OpenSound (standing m' c (Some (record { ledger = l; tables = u })))
+      saved_sound = ((done).1 []).1.sound
+
+    -- a seat that may spend a permit does
+    pub always_paid : (paying : Ledger) (failed : ℕ) (e : Refusal) → books_of paying ≡ paid_for failed (books_of o.ledger)
+        → ◌≡◌ {A = Result (Unit {0}) Refusal} (Err e) (answer (asks_return (books_of paying) i) tt) → ⊥
+    always_paid paying failed e so told = never_unpaid (standing m c (Some o)) (standing m c (Some o)) i n d none paying failed e so told

@@ -1,6 +1,5 @@
 -- The calls on seats and permits keep what is true of a store and its history.
 use Rattle.std.proofs.Common.{◌≡◌, ℕ, ◌∷◌, Some, None, Result, refl}
-use Rattle.chip.specs.Meaning.{Meaning}
 use Rattle.plan.specs.declared.numbers.Plan.{Plan}
 use Rattle.plan.specs.Plan.{plan_of, planned}
 use Rattle.ledger.specs.declared.refusal.Refusal.{Refusal}

@@ -1,6 +1,5 @@
 -- A tick keeps what is true of a store and its history.
 use Rattle.std.proofs.Common.{◌≡◌, ℕ, List, ◌∷◌, get_or, Ok, sym, ap, ◌∙◌, subst, arith}
-use Rattle.chip.specs.Meaning.{Meaning}
 use Rattle.ledger.specs.declared.frame.Frame.{Frame}
 use Rattle.ledger.specs.declared.seat.Seat.{Seat}
 use Rattle.ledger.specs.Seats.{nobody, passed}

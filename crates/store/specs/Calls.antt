@@ -5,7 +5,6 @@
 -- Run          the histories of a store that was just put together and then used by its calls alone
 -- Entered      a call was entered, and the promise is kept
 use Rattle.std.specs.Prelude.{◌≡◌, ℕ, false, List, [], ◌∷◌, length, take, None, Ok, Err, Result}
-use Rattle.chip.specs.Meaning.{Meaning}
 use Rattle.plan.specs.declared.numbers.Plan.{Plan}
 use Rattle.ledger.specs.declared.refusal.Refusal.{Refusal}
 use Rattle.ledger.specs.Of.{books_of}

@@ -9,11 +9,12 @@
 -- Sound         a store is shut, or open with all of that and with settled seats
 -- sound_prop    that there is one proof of this at most
 -- view_of       what can be seen of a store: its map, its chip's pages, and account and charge of each seat
-use Rattle.std.specs.Prelude.{◌≡◌, ℕ, ◌-◌, ◌<◌, ◌≤◌, Bool, true, false, List, length, replicate, Some, None, Option, MatchBool, refl}
+use Rattle.std.specs.Prelude.{◌≡◌, ℕ, ◌-◌, ◌<◌, ◌≤◌, Bool, List, length, replicate, Some, None, Option, MatchBool, refl}
+use Rattle.std.specs.Option.{is_some}
 use Rattle.std.specs.Coded.{Unit-prop}
 use Rattle.std.proofs.Common.{arith, sym, ◌∙◌}
 use Rattle.std.proofs.Props.{props}
-use mathlib.Core.HLevel.{Σ_prop_path}
+use mathlib.Core.HLevel.{is_prop→PathP}
 use Rattle.chip.specs.Meaning.{Page, written, Meaning}
 use Rattle.ledger.specs.declared.frame.Frame.{Frame}
 use Rattle.ledger.specs.declared.ledger.Ledger.{Ledger}
@@ -77,9 +78,16 @@ no_tables =
       geometry = record { blocks = 2; pages_per_block = 2; sized = (omega arith, omega arith, omega arith, omega arith) };
     }
 
+abbrev pub ledger_in : Option Open → Ledger
+ledger_in None = no_ledger
+ledger_in (Some o) = o.ledger
+
+abbrev pub tables_in : Option Open → Tables
+tables_in None = no_tables
+tables_in (Some o) = o.tables
+
 abbrev pub standing : {H : Type 0} → Meaning → H → Option Open → Standing H
-standing m c None = record { chip = m; chooser = c; is_open = false; ledger = no_ledger; tables = no_tables }
-standing m c (Some o) = record { chip = m; chooser = c; is_open = true; ledger = o.ledger; tables = o.tables }
+standing m c o = record { chip = m; chooser = c; is_open = is_some o; ledger = ledger_in o; tables = tables_in o }
 
 module _ {H : Type 0} where
   pub record OpenSound (s : Standing H) : Type 0 where
@@ -101,9 +109,13 @@ module _ {H : Type 0} where
 -- a page that is written is written in one way
 written_prop : (p : Page) (l most : ℕ) → IsProp ((d : List ℕ) × (p ≡ written l d) × (length d ≤ most))
 written_prop p l most x y =
-    let same : written l x.0 ≡ written l y.0 = sym x.1.0 ∙ y.1.0 in
+    let same : written l x.0 ≡ written l y.0 = sym x.1 ∙ y.1 in
     let bytes : x.0 ≡ y.0 = cc in
-    Σ_prop_path (λ d. Prim.hlevel props) bytes
+    λ i. (
+      bytes i,
+      is_prop→PathP (λ j. p ≡ written l (bytes j)) (λ j. Prim.hlevel props) x.1 y.1 i,
+      is_prop→PathP (λ j. length (bytes j) ≤ most) (λ j. Prim.hlevel props) x.2 y.2 i,
+    )
 
 pub sound_prop : {H : Type 0} (m : Meaning) (c : H) (o : Option Open) → IsProp (Sound (standing m c o))
 sound_prop m c None = Unit-prop

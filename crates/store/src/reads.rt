@@ -25,9 +25,7 @@ impl<C: Chip, H: Chooser> Store<C, H> {
         ensures effect { Reads (seen self.old) number buffer.old result (seen self.new) buffer.new }
         ensures promise { (h : History) → Run h (seen self.old) → Entered (entry_read number (length buffer.old) (bytes_read result buffer.new) result) h (seen self.new) }
     {
-        let Some(open) = &self.opened else {
-            return Err(Refusal::NotOpen);
-        };
+        let open = self.opened.as_ref().ok_or(Refusal::NotOpen)?;
         if u32::from(number) >= open.ledger.frame().numbers {
             return Err(Refusal::NoSuchNumber);
         }

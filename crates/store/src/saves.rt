@@ -47,9 +47,7 @@ impl<C: Chip, H: Chooser> Store<C, H> {
         ensures promise { (h : History) → Run h (seen self.old) → Entered (entry_save permit.seat number bytes.now result) h (seen self.new) }
     {
         let Permit { seat } = permit;
-        let Some(open) = &mut self.opened else {
-            return Err(Refusal::NotOpen);
-        };
+        let open = self.opened.as_mut().ok_or(Refusal::NotOpen)?;
         open.ledger.may_spend(seat)?;
         if let Err(refusal) = open.takes_page(number, bytes.len()) {
             let _ = open.ledger.hand_back(seat);

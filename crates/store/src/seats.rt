@@ -17,9 +17,7 @@ impl<C: Chip, H: Chooser> Store<C, H> {
         ensures effect { Admits (seen self.old) seat job.period job.writes result (seen self.new) }
         ensures promise { (h : History) → Run h (seen self.old) → Entered (entry_admit seat job.period job.writes result) h (seen self.new) }
     {
-        let Some(open) = &mut self.opened else {
-            return Err(Refusal::NotOpen);
-        };
+        let open = self.opened.as_mut().ok_or(Refusal::NotOpen)?;
         open.ledger.admit(seat, job)
     }
 
@@ -28,9 +26,7 @@ impl<C: Chip, H: Chooser> Store<C, H> {
         ensures effect { Notices (seen self.old) seat result (seen self.new) }
         ensures promise { (h : History) → Run h (seen self.old) → Entered (entry_notice seat result) h (seen self.new) }
     {
-        let Some(open) = &mut self.opened else {
-            return Err(Refusal::NotOpen);
-        };
+        let open = self.opened.as_mut().ok_or(Refusal::NotOpen)?;
         open.ledger.notice(seat)
     }
 
@@ -39,9 +35,7 @@ impl<C: Chip, H: Chooser> Store<C, H> {
         ensures effect { Takes (seen self.old) seat result (seen self.new) }
         ensures promise { (h : History) → Run h (seen self.old) → Entered (entry_take seat result) h (seen self.new) }
     {
-        let Some(open) = &mut self.opened else {
-            return Err(Refusal::NotOpen);
-        };
+        let open = self.opened.as_mut().ok_or(Refusal::NotOpen)?;
         open.ledger.take(seat)?;
         Ok(Permit { seat })
     }
@@ -52,9 +46,7 @@ impl<C: Chip, H: Chooser> Store<C, H> {
         ensures promise { (h : History) → Run h (seen self.old) → Entered (entry_return permit.seat result) h (seen self.new) }
     {
         let Permit { seat } = permit;
-        let Some(open) = &mut self.opened else {
-            return Err(Refusal::NotOpen);
-        };
+        let open = self.opened.as_mut().ok_or(Refusal::NotOpen)?;
         open.ledger.hand_back(seat)
     }
 }

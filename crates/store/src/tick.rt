@@ -1,6 +1,6 @@
 ghost use Rattle.std.specs.Prelude.{◌≡◌, ℕ, ◌+◌, ◌^◌, ◌<◌, Some};
 ghost use Rattle.history.specs.History.{History};
-ghost use Rattle.store.specs.State.{standing};
+ghost use Rattle.store.specs.State.{standing, OpenSound};
 ghost use Rattle.store.specs.Seen.{seen};
 ghost use Rattle.store.specs.Effects.{Ticks};
 ghost use Rattle.store.specs.Calls.{Run, Entered, entry_tick};
@@ -83,21 +83,30 @@ impl Open {
         self.ledger.end(seat);
         Ok(count)
     }
+
+    // A tick for every seat, in ascending order.
+    fn pass<C: Chip, H: Chooser>(
+        &mut self,
+        chip: &mut C,
+        chooser: &mut H,
+    ) -> Result<Ticked, Refusal>
+        ensures { OpenSound (standing (C.Chip.means chip.old) chooser.old (Some self.old)) → Ticks (standing (C.Chip.means chip.old) chooser.old (Some self.old)) result (standing (C.Chip.means chip.new) chooser.new (Some self.new)) }
+    {
+        let mut count = Ticked::default();
+        for seat in 0..8u8 {
+            count = self.serve(chip, chooser, seat, count)?;
+        }
+        Ok(count)
+    }
 }
 
 impl<C: Chip, H: Chooser> Store<C, H> {
-    // A tick of the clock: every seat in use makes the runs that are due, in ascending order.
+    // A tick of the clock: every seat in use makes the runs that are due.
     pub fn tick(&mut self) -> Result<Ticked, Refusal>
         ensures effect { Ticks (seen self.old) result (seen self.new) }
         ensures promise { (h : History) → Run h (seen self.old) → Entered (entry_tick result) h (seen self.new) }
     {
-        let Some(open) = &mut self.opened else {
-            return Err(Refusal::NotOpen);
-        };
-        let mut count = Ticked::default();
-        for seat in 0..8u8 {
-            count = open.serve(&mut self.chip, &mut self.chooser, seat, count)?;
-        }
-        Ok(count)
+        let open = self.opened.as_mut().ok_or(Refusal::NotOpen)?;
+        open.pass(&mut self.chip, &mut self.chooser)
     }
 }
