@@ -15,7 +15,6 @@ use chip::{Chip, Shape};
 use chooser::Chooser;
 use ledger::{Frame, Ledger, Refusal};
 use pages::{Geometry, Tables};
-use plan::yield_rule;
 
 // What an opening fixes on a chip of this shape.
 fn framed(shape: Shape, numbers: u32, alpha: u32, pool: u32) -> Frame
@@ -48,14 +47,7 @@ fn may_open(is_open: bool, frame: Frame) -> Result<(), Refusal>
     if frame.alpha < 1 || frame.alpha > frame.pages_per_block {
         return Err(Refusal::AlphaOutOfRange);
     }
-    let most = u64::from(frame.pool) + u64::from(frame.allowance);
-    if !yield_rule(
-        u64::from(frame.blocks),
-        u64::from(frame.pages_per_block),
-        u64::from(frame.numbers),
-        most,
-        u64::from(frame.alpha),
-    ) {
+    if !frame.yields(u64::from(frame.pool) + u64::from(frame.allowance)) {
         return Err(Refusal::YieldRuleFails);
     }
     Ok(())
