@@ -2,23 +2,11 @@
 use Rattle.std.proofs.Common.{◌≡◌, ℕ, ◌+◌, ◌-◌, ◌<◌, ◌≤◌, Bool, true, false, cond, ◌&&◌, eqb, ltb, leb, List, ◌++◌, length, set, Some, None, Ok, Err, Option, Result, sym, refl, ap, ◌∙◌, inl, inr, arith}
 use Rattle.std.proofs.lemmas.List.{length-append, get_or_append_left, get_or-append_right, set-append_left, set-append_right}
 use Rattle.std.proofs.lemmas.Bool.{cases_lt, lt-ltb, le-ltb, eq-eqb, le-leb, and_from, cond-true, cond-false}
-use Rattle.chip.specs.declared.pair.Front.{Front}
 use Rattle.chip.specs.declared.words.Refusal.{Refusal}
 use Rattle.chip.specs.declared.words.Refusal.TheVariants.{NotThere, WrongKind, TooLong}
 use Rattle.chip.specs.Meaning.{Page, spoiled, written, Meaning, nothing, page_at}
 use Rattle.chip.specs.Calls.{is_free, asks_program, with_page, Programmed, kind_of, kind_told, fetched_page, fetched, fetched_into, in_front, data_of}
 use Rattle.chip.specs.Pairs.{joinable, both, joined, neither, in_first, in_second, side_of, block_side, Joins, joins}
-use Rattle.chip.specs.Fronts.{front_of}
-
--- ---- the front of a pair
-
-front_when : (m : Meaning) (f : Front) (t : Bool) → Some f ≡ cond t (Some (record { blocks = m.blocks; pages = length m.pages })) None
-    → (t ≡ true) × (f.blocks ≡ m.blocks) × (f.pages ≡ length m.pages)
-front_when m f true e = let same : f ≡ record { blocks = m.blocks; pages = length m.pages } = cc in (refl, ap (λ z. z.blocks) same, ap (λ z. z.pages) same)
-front_when m f false e = absurd (let z : ◌≡◌ {A = ℕ} 0 1 = cc in omega arith)
-
-pub front_parts : (m n : Meaning) (f : Front) → Some f ≡ front_of m n → (joinable m n ≡ true) × (f.blocks ≡ m.blocks) × (f.pages ≡ length m.pages)
-front_parts m n f e = front_when m f (joinable m n) e
 
 joinable_back : (m n : Meaning) → Joins m n → joinable m n ≡ true
 joinable_back m n j =

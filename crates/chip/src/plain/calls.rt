@@ -46,7 +46,7 @@ impl<'a> Plain<'a> {
         ensures { Placed self.now page result }
     {
         let pages = self.size.blocks as usize * self.size.pages_per_block as usize;
-        if !self.size.fit(self.memory.len()) || page as usize >= pages {
+        if !self.size.fits(self.memory.len()) || page as usize >= pages {
             return Err(Refusal::NotThere);
         }
         Ok(page as usize * self.wide())
@@ -56,7 +56,7 @@ impl<'a> Plain<'a> {
     pub(crate) fn told(&self, allowance: u16) -> Shape
         ensures { result ≡ shape_of (means_of self.now.size allowance self.now.memory.now) }
     {
-        if !self.size.fit(self.memory.len()) {
+        if !self.size.fits(self.memory.len()) {
             return Shape {
                 blocks: 0,
                 pages_per_block: 0,
@@ -108,7 +108,7 @@ impl<'a> Plain<'a> {
     fn block(&self, block: u16) -> Result<(usize, usize), Refusal>
         ensures { Bounded self.now block result }
     {
-        if !self.size.fit(self.memory.len()) || block >= self.size.blocks {
+        if !self.size.fits(self.memory.len()) || block >= self.size.blocks {
             return Err(Refusal::NotThere);
         }
         let pages = self.size.pages_per_block as usize;

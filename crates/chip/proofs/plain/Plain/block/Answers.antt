@@ -8,7 +8,7 @@ use Rattle.chip.proofs.plain.Plain.block.Goals as goal
 pub returns : goal.returns
 returns c =
     let p = c.args.self.now in
-    block_within p.size 0 p.memory.now (sym c.if-not-fit.ensures) c.args.block c.wide-wide.result c.if-block-self.false c.wide-wide.ensures
+    block_within p.size 0 p.memory.now (sym c.if-not-fits.ensures) c.args.block c.wide-wide.result c.if-block-self.false c.wide-wide.ensures
 
 -- a block's bytes are few
 few : (n per size long b w : ℕ) → Fit n per size long → b < n → w ≡ wide size → (b * per * w ≤ 2000000) × (per * w ≤ 20000)
@@ -23,17 +23,17 @@ few n per size long b w f l e =
 pub overflow_mul-from-2 : goal.overflow_mul-from-2
 overflow_mul-from-2 c =
     let s = c.args.self.now.size in
-    let f = fit s.blocks s.pages_per_block s.page_size _ (sym c.if-not-fit.ensures) in
+    let f = fit s.blocks s.pages_per_block s.page_size _ (sym c.if-not-fits.ensures) in
     omega (arith, few s.blocks s.pages_per_block s.page_size _ c.args.block c.wide-wide.result f c.if-block-self.false c.wide-wide.ensures)
 
 pub overflow_mul-result : goal.overflow_mul-result
 overflow_mul-result c =
     let s = c.args.self.now.size in
-    let f = fit s.blocks s.pages_per_block s.page_size _ (sym c.if-not-fit.ensures) in
+    let f = fit s.blocks s.pages_per_block s.page_size _ (sym c.if-not-fits.ensures) in
     omega (arith, few s.blocks s.pages_per_block s.page_size _ c.args.block c.wide-wide.result f c.if-block-self.false c.wide-wide.ensures)
 
 pub overflow_add-result : goal.overflow_add-result
 overflow_add-result c =
     let s = c.args.self.now.size in
-    let f = fit s.blocks s.pages_per_block s.page_size _ (sym c.if-not-fit.ensures) in
+    let f = fit s.blocks s.pages_per_block s.page_size _ (sym c.if-not-fits.ensures) in
     omega (arith, few s.blocks s.pages_per_block s.page_size _ c.args.block c.wide-wide.result f c.if-block-self.false c.wide-wide.ensures)
