@@ -1,7 +1,8 @@
-ghost use Rattle.std.specs.Prelude.{◌≡◌, ◌*◌};
-ghost use Rattle.chip.specs.Slot.{in_range, fits};
+ghost use Rattle.std.specs.Prelude.{◌≡◌, ◌+◌, ◌*◌};
+ghost use Rattle.chip.specs.Slot.{wide, in_range, fits};
 
 use crate::slot;
+use std::ops::Range;
 
 // How large a chip in memory is to be. By default it has no pages.
 #[derive(Clone, Copy, PartialEq, Eq, Debug, Default)]
@@ -19,6 +20,33 @@ impl Size {
         self.blocks as usize * self.pages_per_block as usize
     }
 
+    // How many bytes a slot takes.
+    fn wide(self) -> usize
+        ensures { result ≡ wide self.page_size }
+    {
+        slot::HEADER + self.page_size as usize
+    }
+
+    // Where the slot of a page lies.
+    pub(crate) fn slot(self, page: u16) -> Range<usize>
+        ensures from { result.start ≡ page * wide self.page_size }
+        ensures to { result.end ≡ result.start + wide self.page_size }
+    {
+        let wide = self.wide();
+        let from = page as usize * wide;
+        from..from + wide
+    }
+
+    // Where the slots of a block lie.
+    pub(crate) fn block(self, block: u16) -> Range<usize>
+        ensures from { result.start ≡ block * (self.pages_per_block * wide self.page_size) }
+        ensures to { result.end ≡ result.start + self.pages_per_block * wide self.page_size }
+    {
+        let wide = self.pages_per_block as usize * self.wide();
+        let from = block as usize * wide;
+        from..from + wide
+    }
+
     // Whether a chip may have this size.
     fn in_range(self) -> bool
         ensures { result ≡ in_range self.blocks self.pages_per_block self.page_size }
@@ -28,11 +56,11 @@ impl Size {
             && (1..=512).contains(&self.page_size)
     }
 
-    #[tactic(auto, unfolding(crate::specs::Slot::fits))]
     // Whether a chip may have this size, and takes just so many bytes.
+    #[tactic(auto, unfolding(crate::specs::Slot::fits))]
     pub(crate) fn fits(self, long: usize) -> bool
         ensures { result ≡ fits self.blocks self.pages_per_block self.page_size long }
     {
-        self.in_range() && self.pages() * (slot::HEADER + self.page_size as usize) == long
+        self.in_range() && self.pages() * self.wide() == long
     }
 }

@@ -15,14 +15,8 @@ use crate::words::{Kind, Refusal, Shape};
 impl<'a> Flawed<'a> {
     // A chip over this memory, which stays as it is. A gap g lets g - 1 accepted programs pass and fails the next;
     // then the next gap counts.
-    pub fn new(
-        memory: &'a mut [u8],
-        blocks: u16,
-        pages_per_block: u16,
-        page_size: u16,
-        gaps: &[u16],
-    ) -> Flawed<'a>
-        ensures means { flawed_means result ≡ made_flawed blocks pages_per_block page_size gaps.now memory.old }
+    pub fn new(memory: &'a mut [u8], size: Size, gaps: &[u16]) -> Flawed<'a>
+        ensures means { flawed_means result ≡ made_flawed size.blocks size.pages_per_block size.page_size gaps.now memory.old }
         ensures gaps { gaps_of result ≡ (if good_gaps gaps.now then gaps.now else []) }
         ensures bytes { result.plain.memory.now ≡ memory.old }
         ensures layout { Layout }
@@ -30,27 +24,13 @@ impl<'a> Flawed<'a> {
     {
         match Gaps::new(gaps) {
             Some(gaps) => Flawed {
-                plain: Plain::over(
-                    memory,
-                    Size {
-                        blocks,
-                        pages_per_block,
-                        page_size,
-                    },
-                ),
+                plain: Plain::new(memory, size),
                 gaps,
             },
-            None => {
-                let none = Size {
-                    blocks: 0,
-                    pages_per_block: 0,
-                    page_size: 0,
-                };
-                Flawed {
-                    plain: Plain::over(memory, none),
-                    gaps: Gaps::none(),
-                }
-            }
+            None => Flawed {
+                plain: Plain::new(memory, Size::default()),
+                gaps: Gaps::none(),
+            },
         }
     }
 }
