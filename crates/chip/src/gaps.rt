@@ -2,12 +2,12 @@ ghost use Rattle.std.specs.Prelude.{◌≡◌, ◌-◌, ◌≤◌, true, false, 
 ghost use Rattle.chip.specs.Gaps.{strikes, worn, good_gaps};
 
 // The gaps of a flawed chip, at the end of the table. The one at `next` counts, and those before it are spent.
-// The table is as large as it may get, since a chip has no memory but what it is lent.
+// The table is as large as it may get, since a chip has no memory but what it is lent. No ghost field says that
+// `next` is at most 8: a chip that holds a `&mut` and such a struct is not proved where it is a type argument.
 #[derive(Clone, Copy)]
 pub(crate) struct Gaps {
     table: [u16; 8],
     next: usize,
-    ghost within: { next ≤ 8 },
 }
 
 impl Gaps {
@@ -36,7 +36,7 @@ impl Gaps {
     pub(crate) fn left(&self) -> u16
         ensures { result ≡ 8 - self.now.next }
     {
-        (8 - self.next) as u16
+        8usize.saturating_sub(self.next) as u16
     }
 
     // Whether the next accepted program fails.
@@ -44,7 +44,7 @@ impl Gaps {
         ensures value { result ≡ strikes (drop self.now.next self.now.table) }
         ensures some { result ≡ true → 1 ≤ 8 - self.now.next }
     {
-        self.table[self.next..].first().is_some_and(|gap| *gap <= 1)
+        self.table.get(self.next).is_some_and(|gap| *gap <= 1)
     }
 
     // Counts an accepted program.
