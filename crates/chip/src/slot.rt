@@ -53,6 +53,7 @@ impl<'a> Slot<'a> {
         self.bytes[0] == BLANK && is_blank(self.bytes)
     }
 
+    #[tactic(auto, using(crate::proofs::Reading::page_written, crate::proofs::Reading::page_free, crate::proofs::Reading::page_spoiled))]
     pub(crate) fn kind(&self) -> Kind
         ensures { result ≡ kind_of (page_of (room self.now.bytes.now) self.now.bytes.now) }
     {

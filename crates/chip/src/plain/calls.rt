@@ -12,6 +12,7 @@ use crate::words::{Kind, Refusal, Shape};
 use std::ops::Range;
 
 impl<'a> Plain<'a> {
+    #[tactic(auto, using(crate::proofs::Slots::layout))]
     // A chip over this memory, which stays as it is: its pages are what the bytes mean. It has none if the size does
     // not fit the memory.
     pub fn new(memory: &'a mut [u8], size: Size) -> Plain<'a>
@@ -48,6 +49,7 @@ impl<'a> Plain<'a> {
     }
 
     // The shape, with so many failures left.
+    #[tactic(auto, using(crate::proofs::Placing::means_none))]
     pub(crate) fn told(&self, allowance: u16) -> Shape
         ensures { result ≡ shape_of (means_of self.now.size allowance self.now.memory.now) }
     {

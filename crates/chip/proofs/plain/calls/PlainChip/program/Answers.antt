@@ -1,23 +1,8 @@
-use Rattle.std.proofs.Common.{refl, ap, ◌∙◌}
-use Rattle.chip.specs.Calls.{with_page}
-use Rattle.chip.specs.Slot.{slot_of}
-use Rattle.chip.specs.Makes.{plain_means}
-use Rattle.chip.proofs.Slots.{page_of_slot}
-use Rattle.chip.proofs.Touching.{touched_means}
+use Rattle.std.proofs.Common.{refl}
+use Rattle.chip.proofs.Flawing.{programmed_good}
 use Rattle.chip.proofs.plain.calls.PlainChip.program.Goals as goal
 
-pub returns : goal.returns
-returns c =
+pub returns-clause-effect : goal.returns-clause-effect
+returns-clause-effect c =
     let p = c.args.self.now in
-    let done = c.in_ok-put.ensures in
-    let size = p.size.page_size in
-    record {
-      effect = (
-        done.0,
-        tt,
-        touched_means 0 0 0 p c.put.new.self c.args.page (slot_of size c.args.label c.args.bytes.now) refl done.2
-            ∙ ap (λ x. with_page (plain_means p) c.args.page x 0) (page_of_slot size c.args.label c.args.bytes.now done.1),
-      );
-      good = refl;
-      bytes = done.2.bytes;
-    }
+    let done = c.in_ok-put.ensures in programmed_good p c.put.new.self 0 0 c.args.page c.args.label c.args.bytes.now done.0 done.1 refl done.2
