@@ -66,6 +66,7 @@ impl<'a> Slot<'a> {
         }
     }
 
+    #[tactic(auto, using(crate::proofs::Reading::fetched_unwritten, crate::proofs::Reading::fetched_too_long, crate::proofs::Reading::fetched_whole, crate::proofs::Reading::fetched_bytes))]
     pub(crate) fn fetch(&self, buffer: &mut [u8]) -> Result<(u16, usize), Refusal>
         ensures value { result ≡ fetched_page (page_of (room self.now.bytes.now) self.now.bytes.now) (length buffer.old) }
         ensures buffer { buffer.new ≡ fetched_onto (page_of (room self.now.bytes.now) self.now.bytes.now) result buffer.old }

@@ -15,6 +15,7 @@ use crate::words::{Kind, Refusal, Shape};
 impl<'a> Flawed<'a> {
     // A chip over this memory, which stays as it is. A gap g lets g - 1 accepted programs pass and fails the next;
     // then the next gap counts.
+    #[tactic(auto, using(crate::proofs::Wearing::gap_law, crate::proofs::Placing::means_for))]
     pub fn new(memory: &'a mut [u8], size: Size, gaps: &[u16]) -> Flawed<'a>
         ensures means { flawed_means result ≡ made_flawed size.blocks size.pages_per_block size.page_size gaps.now memory.old }
         ensures gaps { gaps_of result ≡ (if good_gaps gaps.now then gaps.now else []) }
@@ -84,6 +85,7 @@ impl<'a> Chip for Flawed<'a> {
         self.plain.read(page, buffer)
     }
 
+    #[tactic(auto, using(crate::proofs::Touching::wiped_means))]
     fn erase(&mut self, block: u16) -> Result<(), Refusal>
         ensures value { result ≡ erase_told (flawed_means self.old) block }
         ensures after { flawed_means self.new ≡ erased (flawed_means self.old) block }

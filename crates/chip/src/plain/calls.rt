@@ -12,9 +12,9 @@ use crate::words::{Kind, Refusal, Shape};
 use std::ops::Range;
 
 impl<'a> Plain<'a> {
-    #[tactic(auto, using(crate::proofs::Slots::layout))]
     // A chip over this memory, which stays as it is: its pages are what the bytes mean. It has none if the size does
     // not fit the memory.
+    #[tactic(auto, using(crate::proofs::Slots::layout))]
     pub fn new(memory: &'a mut [u8], size: Size) -> Plain<'a>
         ensures means { plain_means result ≡ made size.blocks size.pages_per_block size.page_size 0 memory.old }
         ensures size { result.size ≡ size_for size (length memory.old) }
@@ -30,6 +30,7 @@ impl<'a> Plain<'a> {
     }
 
     // Where the slot of a page lies.
+    #[tactic(auto, using(crate::proofs::Placing::least_pages))]
     fn place(&self, page: u16) -> Result<Range<usize>, Refusal>
         ensures { Placed self.now page result }
     {
@@ -64,12 +65,14 @@ impl<'a> Plain<'a> {
         }
     }
 
+    #[tactic(auto, using(crate::proofs::Placing::told_kind))]
     pub(crate) fn look(&self, page: u16) -> Result<Kind, Refusal>
         ensures { result ≡ kind_told (plain_means self.now) page }
     {
         Ok(self.slot(page)?.kind())
     }
 
+    #[tactic(auto, using(crate::proofs::Placing::told_fetch, crate::proofs::Placing::told_into))]
     pub(crate) fn read(&self, page: u16, buffer: &mut [u8]) -> Result<(u16, usize), Refusal>
         ensures value { result ≡ fetched (plain_means self.now) page (length buffer.old) }
         ensures buffer { buffer.new ≡ fetched_into (plain_means self.now) page result buffer.old }
@@ -78,6 +81,7 @@ impl<'a> Plain<'a> {
     }
 
     // Where the slot lies of a page that may be programmed with so many bytes.
+    #[tactic(auto, using(crate::proofs::Placing::asks_not_free, crate::proofs::Placing::asks_too_long))]
     fn open(&self, page: u16, long: usize) -> Result<Range<usize>, Refusal>
         ensures { Opened self.now page long result }
     {
@@ -149,6 +153,7 @@ impl<'a> Chip for Plain<'a> {
         self.look(page)
     }
 
+    #[tactic(auto, using(crate::proofs::Flawing::programmed_good))]
     fn program(&mut self, page: u16, label: u16, bytes: &[u8]) -> Result<bool, Refusal>
         ensures effect { Programmed (plain_means self.old) page label bytes.now result (plain_means self.new) }
         ensures good { NeverFails result }
@@ -167,6 +172,7 @@ impl<'a> Chip for Plain<'a> {
         self.read(page, buffer)
     }
 
+    #[tactic(auto, using(crate::proofs::Touching::wiped_means))]
     fn erase(&mut self, block: u16) -> Result<(), Refusal>
         ensures value { result ≡ erase_told (plain_means self.old) block }
         ensures after { plain_means self.new ≡ erased (plain_means self.old) block }

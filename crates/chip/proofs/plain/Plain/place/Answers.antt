@@ -1,13 +1,6 @@
-use Rattle.std.proofs.Common.{◌*◌, ◌<◌, refl, arith}
-use Rattle.chip.proofs.Placing.{least_pages, whole_at, within}
+use Rattle.std.proofs.Common.{◌*◌, ◌<◌, arith}
+use Rattle.chip.proofs.Placing.{whole_at, within}
 use Rattle.chip.proofs.plain.Plain.place.Goals as goal
-
-pub returns-then-page-pages : goal.returns-then-page-pages
-returns-then-page-pages c =
-    let p = c.args.self.now in
-    let e = c.pages.ensures in
-    let past = c.if-page-pages.true in
-    (refl, least_pages p.size 0 p.memory.now c.args.page (omega arith))
 
 pub returns : goal.returns
 returns c =
