@@ -33,7 +33,7 @@ wiped_second per b c xs ys e =
     ∙ ap (λ z. z ++ (replicate per free ++ drop (c * per + per) ys)) (sym (take_past xs ys (b * per) (c * per) e))
     ∙ ap (λ z. take (b * per) (xs ++ ys) ++ (replicate per free ++ z)) (sym (drop_past xs ys (b * per + per) (c * per + per) (omega arith)))
 
--- ---- what an erase answers and leaves
+-- ---- what an erase leaves
 
 module _ (m n : Meaning) (rule : joinable m n ≡ true) (long : length m.pages ≡ m.blocks * m.per_block) where
   abbrev with_pages : List Page → Meaning

@@ -2,7 +2,7 @@
 use Rattle.std.proofs.Common.{◌≡◌, ℕ, zero, suc, zero-mul, ◌+◌, ◌-◌, ◌*◌, ◌<◌, ◌≤◌, Bool, true, false, cond, ltb, leb, List, ◌++◌, length, take, drop, set, replicate, Some, None, Ok, Err, Option, Result, sym, refl, ap, ◌∙◌, inl, inr, mul_assoc, arith}
 use borrow.Rule.Slice.PartMut.{put_mid}
 use Rattle.std.proofs.lemmas.List.{length-replicate, length-take, length-drop, drop-drop}
-use Rattle.std.proofs.lemmas.Bool.{cases_Bool, cond-true, cond-false, ne_eqb, lt-ltb, le-ltb, le-leb, lt-leb}
+use Rattle.std.proofs.lemmas.Bool.{cases_Bool, cond-true, cond-false, ne_eqb, lt-ltb, le-leb, lt-leb}
 use Rattle.std.specs.declared.ops.Range.{Range}
 use Rattle.chip.specs.declared.size.Size.{Size}
 use Rattle.chip.specs.declared.words.Refusal.{Refusal}
@@ -126,7 +126,7 @@ module _ (s : Size) (left : ℕ) (memory : List ℕ) where
       pub told_erased : with_block_free meant b ≡ erased meant b
       told_erased = ap (λ t. cond t (with_block_free meant b) meant) (sym found)
 
-  -- ---- a page or a block that is not there
+  -- ---- a page that is not there
 
   pub least_pages : (q : ℕ) → count ≤ q → length meant.pages ≤ q
   least_pages q l =
@@ -135,29 +135,13 @@ module _ (s : Size) (left : ℕ) (memory : List ℕ) where
         | inr other ↦ no_pages other q
       ]
 
-  pub no_blocks : good ≡ false → (b : ℕ) → meant.blocks ≤ b
-  no_blocks other b = omega (arith, ap (λ m. m.blocks) (means_nothing other))
-
-  pub least_blocks : (b : ℕ) → s.blocks ≤ b → meant.blocks ≤ b
-  least_blocks b l =
-      elim (cases_Bool good) [
-        | inl whole ↦ omega (arith, ap (λ m. m.blocks) (means_laid whole), l)
-        | inr other ↦ no_blocks other b
-      ]
-
-  pub asks_not_there : (q bytes : ℕ) → length meant.pages ≤ q → asks_program meant q bytes ≡ Some NotThere
-  asks_not_there q bytes l = rw (le-ltb q (length meant.pages) l)
-
 -- ---- what the code leaves in memory, and what that means
 
 module _ (s : Size) (memory : List ℕ) where
-  -- a slot that is read or written where it lies
+  -- a slot where it lies
   module _ (q : ℕ) (at : Range ℕ) (in' : Within s (length memory) q at) where
     span : at.end - at.start ≡ wide s.page_size
     span = let e = in'.wide_slot in omega arith
-
-    pub read_slot : take (at.end - at.start) (drop at.start memory) ≡ slot_at s.page_size q memory
-    read_slot = rw (span, in'.begins)
 
     pub room_read : room (take (at.end - at.start) (drop at.start memory)) ≡ s.page_size
     room_read = let e = in'.wide_slot in let l = in'.ends in rw span (simp (length-take, length-drop) (omega arith))
@@ -166,20 +150,6 @@ module _ (s : Size) (memory : List ℕ) where
     put_slot left new e =
         rw (e, span, in'.begins)
         (ap (λ z. take (q * wide s.page_size) memory ++ (new ++ z)) (drop-drop (wide s.page_size) (q * wide s.page_size) memory))
-
-  -- a block that is erased where it lies
-  pub put_block : (b : ℕ) (at : Range ℕ) (left : List ℕ) → BlockWithin s (length memory) b at
-      → left ≡ replicate (length (take (at.end - at.start) (drop at.start memory))) 255
-      → put_mid at.start (at.end - at.start) memory left ≡ blank_block s.page_size s.pages_per_block b memory
-  put_block b at left in' e =
-      let w = s.pages_per_block * wide s.page_size in
-      let from = b * s.pages_per_block * wide s.page_size in
-      let f = in'.wide_block in
-      let g = in'.begins in
-      let inside = in'.ends in
-      let span : at.end - at.start ≡ w = omega arith in
-      let l : length (take w (drop from memory)) ≡ w = simp (length-take, length-drop) (omega arith) in
-      rw (e, span, g, l) (ap (λ z. take from memory ++ (replicate w 255 ++ z)) (drop-drop w from memory))
 
 -- ---- what is known of the sizes
 
