@@ -15,7 +15,7 @@ use crate::words::{Kind, Refusal, Shape};
 impl<'a> Flawed<'a> {
     // A chip over this memory, which stays as it is. A gap g lets g - 1 accepted programs pass and fails the next;
     // then the next gap counts.
-    #[tactic(auto, using(crate::proofs::Wearing::gap_law, crate::proofs::Placing::means_for))]
+    #[tactic(auto, using(crate::proofs::Wearing::gap_law))]
     pub fn new(memory: &'a mut [u8], size: Size, gaps: &[u16]) -> Flawed<'a>
         ensures means { flawed_means result ≡ made_flawed size.blocks size.pages_per_block size.page_size gaps.now memory.old }
         ensures gaps { gaps_of result ≡ (if good_gaps gaps.now then gaps.now else []) }
@@ -23,15 +23,13 @@ impl<'a> Flawed<'a> {
         ensures layout { Layout }
         ensures law { GapLaw }
     {
-        match Gaps::new(gaps) {
-            Some(gaps) => Flawed {
-                plain: Plain::new(memory, size),
-                gaps,
-            },
-            None => Flawed {
-                plain: Plain::new(memory, Size::default()),
-                gaps: Gaps::none(),
-            },
+        let (size, gaps) = match Gaps::new(gaps) {
+            Some(gaps) => (size, gaps),
+            None => (Size::default(), Gaps::none()),
+        };
+        Flawed {
+            plain: Plain::new(memory, size),
+            gaps,
         }
     }
 }
@@ -65,14 +63,14 @@ impl<'a> Chip for Flawed<'a> {
         ensures counted { Counted (gaps_of self.old) result (gaps_of self.new) }
         ensures bytes { self.new.plain.memory.now ≡ programmed_bytes self.old.plain.size.page_size page label bytes.now result self.old.plain.memory.now }
     {
-        if self.gaps.strike() {
+        let fails = self.gaps.strike();
+        if fails {
             self.plain.spoil(page, bytes.len())?;
-            self.gaps.wear();
-            return Ok(false);
+        } else {
+            self.plain.put(page, label, bytes)?;
         }
-        self.plain.put(page, label, bytes)?;
         self.gaps.wear();
-        Ok(true)
+        Ok(!fails)
     }
 
     fn fetch(&mut self, page: u16, buffer: &mut [u8]) -> Result<(u16, usize), Refusal>

@@ -65,6 +65,8 @@ impl<'a> Plain<'a> {
         }
     }
 
+    // What both makes of chip in memory answer. The calls of the trait take `&mut self`; these take `&self`, and so
+    // need no clauses on what stays.
     #[tactic(auto, using(crate::proofs::Placing::told_kind))]
     pub(crate) fn look(&self, page: u16) -> Result<Kind, Refusal>
         ensures { result ≡ kind_told (plain_means self.now) page }
@@ -105,7 +107,8 @@ impl<'a> Plain<'a> {
         Ok(self.size.block(block))
     }
 
-    // A program that is good, whatever make of chip this memory is part of.
+    // A program that is good, whatever make of chip this memory is part of. It and `spoil` differ in one call, which as
+    // a closure would cost more lines of contract than it saves.
     pub(crate) fn put(&mut self, page: u16, label: u16, bytes: &[u8]) -> Result<(), Refusal>
         ensures { Put self.old page (length bytes.now) (slot_of self.old.size.page_size label bytes.now) result self.new }
     {
