@@ -1,7 +1,7 @@
 ghost use Rattle.std.specs.Prelude.{◌≡◌, length};
 ghost use Rattle.chip.specs.Calls.{shape_of, kind_told, Programmed, fetched, fetched_into, erase_told, erased};
 ghost use Rattle.chip.specs.Slot.{slot_of, failed_slot, programmed_bytes, block_erased, made, Layout};
-ghost use Rattle.chip.specs.Makes.{means_of, plain_means, size_for, NeverFails, Placed, Held, Opened, Bounded, Put, Wiped};
+ghost use Rattle.chip.specs.Makes.{means_of, plain_means, size_for, NeverFails, Held, Opened, Bounded, Put, Wiped};
 ghost use Rattle.chip.specs.Shaping.{plain_shaped};
 
 use crate::chip::Chip;
@@ -29,21 +29,15 @@ impl<'a> Plain<'a> {
         Plain { memory, size }
     }
 
-    // Where the slot of a page lies.
+    // The slot of a page.
     #[tactic(auto, using(crate::proofs::Placing::least_pages))]
-    fn place(&self, page: u16) -> Result<Range<usize>, Refusal>
-        ensures { Placed self.now page result }
+    fn slot(&self, page: u16) -> Result<Slot<'_>, Refusal>
+        ensures { Held self.now page result }
     {
         if page as usize >= self.size.pages() {
             return Err(Refusal::NotThere);
         }
-        Ok(self.size.slot(page))
-    }
-
-    fn slot(&self, page: u16) -> Result<Slot<'_>, Refusal>
-        ensures { Held self.now page result }
-    {
-        let at = self.place(page)?;
+        let at = self.size.slot(page);
         Ok(Slot {
             bytes: &self.memory[at],
         })
