@@ -9,7 +9,7 @@
 -- gaps_of        the gaps that a flawed chip has left, the one that counts first
 -- Counted        which program fails, and what it leaves of the gaps
 -- made_flawed    what a flawed chip that was just made means
--- Placed         where the slot of a page lies; `Held` its bytes, and `Opened` the same of a page that may be programmed
+-- Held           the slot of a page; `Opened` where the slot lies of a page that may be programmed
 -- Bounded        where the slots of a block lie
 -- Put            memory after a program, as good or failed as the slot says; `Wiped` after an erase
 use Rattle.std.specs.Prelude.{◌≡◌, ℕ, ◌+◌, ◌-◌, ◌*◌, ◌<◌, ◌≤◌, Bool, true, cond, not, List, length, drop, Some, None, Ok, Err, Result}
@@ -53,10 +53,6 @@ pub record Within (s : Size) (long q : ℕ) (at : Range ℕ) : Type 0 where
   pub begins : at.start ≡ q * wide s.page_size
   pub wide_slot : at.end ≡ at.start + wide s.page_size
   pub ends : at.end ≤ long
-
-abbrev pub Placed : Plain → ℕ → Result (Range ℕ) Refusal → Type 0
-Placed p q (Ok at) = Within p.size (length p.memory.now) q at
-Placed p q (Err e) = (e ≡ NotThere) × (length (plain_means p).pages ≤ q)
 
 -- the bytes of a page's slot
 pub record Holding (p : Plain) (q : ℕ) (slot : Slot) : Type 0 where
