@@ -55,6 +55,7 @@ impl<A: Chip, B: Chip> Pair<A, B> {
         front.join(back).map(|_| front).ok_or(Refusal::NotThere)
     }
 
+    // Which of the two a page lies in.
     fn page(&mut self, page: u16) -> Result<Half, Refusal>
         ensures value { PageIn (A.Chip.means self.old.first) (B.Chip.means self.old.second) page result }
         ensures first { A.Chip.means self.new.first ≡ A.Chip.means self.old.first }
@@ -64,6 +65,7 @@ impl<A: Chip, B: Chip> Pair<A, B> {
         Ok(Half::of(page, front.blocks * front.pages_per_block))
     }
 
+    // Which of the two a block lies in.
     fn block(&mut self, block: u16) -> Result<Half, Refusal>
         ensures value { BlockIn (A.Chip.means self.old.first) (B.Chip.means self.old.second) block result }
         ensures first { A.Chip.means self.new.first ≡ A.Chip.means self.old.first }
