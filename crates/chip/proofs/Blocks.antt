@@ -1,12 +1,11 @@
 -- An erase of a pair is an erase of the one chip that the block lies in.
-use Rattle.std.proofs.Common.{◌≡◌, ℕ, suc, ◌+◌, ◌-◌, ◌*◌, ◌<◌, ◌≤◌, true, cond, ltb, List, ◌++◌, length, take, drop, replicate, Ok, Err, sym, ap, ◌∙◌, inl, inr, append_assoc, mul-le-mul_right, suc-mul, add-mul, arith, rules}
+use Rattle.std.proofs.Common.{◌≡◌, ℕ, suc, ◌+◌, ◌-◌, ◌*◌, ◌<◌, ◌≤◌, true, ltb, List, ◌++◌, length, take, drop, replicate, sym, ap, ◌∙◌, inl, inr, append_assoc, mul-le-mul_right, suc-mul, add-mul, arith, rules}
 use Rattle.std.proofs.lemmas.List.{take-append-le, drop-append-le, places, same_lists}
 use Rattle.std.proofs.lemmas.Bool.{cases_lt, lt-ltb, le-ltb, cond-true, cond-false}
-use Rattle.chip.specs.declared.words.Refusal.TheVariants.{NotThere}
 use Rattle.chip.specs.Meaning.{Page, free, Meaning, nothing, Shaped}
-use Rattle.chip.specs.Calls.{wiped, with_block_free, erase_told, erased}
+use Rattle.chip.specs.Calls.{wiped, with_block_free, erased}
 use Rattle.chip.specs.Pairs.{joinable, both, joined, joins}
-use Rattle.chip.proofs.Joining.{joined_both, ltb_shift}
+use Rattle.chip.proofs.Joining.{joined_both}
 
 pub length_shaped : (m : Meaning) → Shaped m → length m.pages ≡ m.blocks * m.per_block
 length_shaped m (inl none) = ap (λ z. length z.pages) none ∙ sym (ap (λ z. z.blocks * z.per_block) none)
@@ -34,21 +33,12 @@ wiped_second per b c xs ys e =
     ∙ ap (λ z. z ++ (replicate per free ++ drop (c * per + per) ys)) (sym (take_past xs ys (b * per) (c * per) e))
     ∙ ap (λ z. take (b * per) (xs ++ ys) ++ (replicate per free ++ z)) (sym (drop_past xs ys (b * per + per) (c * per + per) (omega arith)))
 
--- ---- what an erase answers and leaves
+-- ---- what an erase leaves
 
 module _ (m n : Meaning) (rule : joinable m n ≡ true) (long : length m.pages ≡ m.blocks * m.per_block) where
   abbrev with_pages : List Page → Meaning
   with_pages ps =
       record { blocks = m.blocks + n.blocks; per_block = m.per_block; page_size = m.page_size; allowance = m.allowance + n.allowance; pages = ps }
-
-  pub value_first : (b : ℕ) → b < m.blocks → erase_told m b ≡ erase_told (joined m n) b
-  value_first b l =
-      cond-true (ltb b m.blocks) (Ok tt) (Err NotThere) (lt-ltb b m.blocks l)
-      ∙ sym (cond-true (ltb b (m.blocks + n.blocks)) (Ok tt) (Err NotThere) (lt-ltb b (m.blocks + n.blocks) (omega arith)))
-      ∙ ap (λ z. erase_told z b) (sym (joined_both m n rule))
-
-  pub value_second : (b : ℕ) → m.blocks ≤ b → erase_told n (b - m.blocks) ≡ erase_told (joined m n) b
-  value_second b l = ap (λ t. cond t (Ok tt) (Err NotThere)) (ltb_shift b m.blocks n.blocks l) ∙ ap (λ z. erase_told z b) (sym (joined_both m n rule))
 
   pub after_first : (b : ℕ) → b < m.blocks → joined (erased m b) n ≡ erased (joined m n) b
   after_first b l =

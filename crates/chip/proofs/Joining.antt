@@ -1,24 +1,12 @@
 -- What is told of a pair is told of the one chip that a call reaches, and what changes there changes in the pair.
 use Rattle.std.proofs.Common.{◌≡◌, ℕ, ◌+◌, ◌-◌, ◌<◌, ◌≤◌, Bool, true, false, cond, ◌&&◌, eqb, ltb, leb, List, ◌++◌, length, set, Some, None, Ok, Err, Option, Result, sym, refl, ap, ◌∙◌, inl, inr, arith}
 use Rattle.std.proofs.lemmas.List.{length-append, get_or_append_left, get_or-append_right, set-append_left, set-append_right}
-use Rattle.std.proofs.lemmas.Bool.{cases_lt, lt-ltb, le-ltb, eq-eqb, le-leb, and_from, cond-true, cond-false}
-use Rattle.chip.specs.declared.pair.Front.{Front}
+use Rattle.std.proofs.lemmas.Bool.{cases_lt, lt-ltb, le-ltb, eq-eqb, le-leb, and_from, cond-true}
 use Rattle.chip.specs.declared.words.Refusal.{Refusal}
 use Rattle.chip.specs.declared.words.Refusal.TheVariants.{NotThere, WrongKind, TooLong}
 use Rattle.chip.specs.Meaning.{Page, spoiled, written, Meaning, nothing, page_at}
-use Rattle.chip.specs.Calls.{is_free, asks_program, with_page, Programmed, kind_of, kind_told, fetched_page, fetched, fetched_into, in_front, data_of}
-use Rattle.chip.specs.Pairs.{joinable, both, joined, neither, in_first, in_second, side_of, block_side, Joins, joins}
-use Rattle.chip.specs.Fronts.{front_of}
-
--- ---- the front of a pair
-
-front_when : (m : Meaning) (f : Front) (t : Bool) → Some f ≡ cond t (Some (record { blocks = m.blocks; pages = length m.pages })) None
-    → (t ≡ true) × (f.blocks ≡ m.blocks) × (f.pages ≡ length m.pages)
-front_when m f true e = let same : f ≡ record { blocks = m.blocks; pages = length m.pages } = cc in (refl, ap (λ z. z.blocks) same, ap (λ z. z.pages) same)
-front_when m f false e = absurd (let z : ◌≡◌ {A = ℕ} 0 1 = cc in omega arith)
-
-pub front_parts : (m n : Meaning) (f : Front) → Some f ≡ front_of m n → (joinable m n ≡ true) × (f.blocks ≡ m.blocks) × (f.pages ≡ length m.pages)
-front_parts m n f e = front_when m f (joinable m n) e
+use Rattle.chip.specs.Calls.{is_free, asks_program, with_page, Programmed}
+use Rattle.chip.specs.Pairs.{joinable, both, joined, Joins, joins}
 
 joinable_back : (m n : Meaning) → Joins m n → joinable m n ≡ true
 joinable_back m n j =
@@ -69,26 +57,6 @@ module _ (m n : Meaning) (rule : joinable m n ≡ true) where
   told_second f e q l =
       ap (λ t. cond t (f (page_at n (q - len))) e) (ltb_shift q len (length n.pages) l ∙ ap (ltb q) (sym long))
       ∙ ap (λ x. cond (ltb q (length (both m n).pages)) (f x) e) (sym (page_second q l))
-
-  pub kind_first : (q : ℕ) → q < len → kind_told m q ≡ kind_told (joined m n) q
-  kind_first q l = told_first (λ x. Ok (kind_of x)) (Err NotThere) q l ∙ ap (λ z. kind_told z q) (sym joined_both)
-
-  pub kind_second : (q : ℕ) → len ≤ q → kind_told n (q - len) ≡ kind_told (joined m n) q
-  kind_second q l = told_second (λ x. Ok (kind_of x)) (Err NotThere) q l ∙ ap (λ z. kind_told z q) (sym joined_both)
-
-  pub fetch_first : (q room : ℕ) → q < len → fetched m q room ≡ fetched (joined m n) q room
-  fetch_first q room l = told_first (λ x. fetched_page x room) (Err NotThere) q l ∙ ap (λ z. fetched z q room) (sym joined_both)
-
-  pub fetch_second : (q room : ℕ) → len ≤ q → fetched n (q - len) room ≡ fetched (joined m n) q room
-  fetch_second q room l = told_second (λ x. fetched_page x room) (Err NotThere) q l ∙ ap (λ z. fetched z q room) (sym joined_both)
-
-  pub into_first : (q : ℕ) (r : Result (ℕ × ℕ) Refusal) (buffer : List ℕ) → q < len → fetched_into m q r buffer ≡ fetched_into (joined m n) q r buffer
-  into_first q (Ok t) buffer l = ap (λ x. in_front (data_of x) buffer) (sym (page_first q l) ∙ ap (λ z. page_at z q) (sym joined_both))
-  into_first q (Err e) buffer l = refl
-
-  pub into_second : (q : ℕ) (r : Result (ℕ × ℕ) Refusal) (buffer : List ℕ) → len ≤ q → fetched_into n (q - len) r buffer ≡ fetched_into (joined m n) q r buffer
-  into_second q (Ok t) buffer l = ap (λ x. in_front (data_of x) buffer) (sym (page_second q l) ∙ ap (λ z. page_at z q) (sym joined_both))
-  into_second q (Err e) buffer l = refl
 
   asks_first : (q bytes : ℕ) → q < len → asks_program (joined m n) q bytes ≡ asks_program m q bytes
   asks_first q bytes l = ap (λ z. asks_program z q bytes) joined_both ∙ sym (told_first (asked m.page_size bytes) (Some NotThere) q l)
@@ -159,25 +127,3 @@ module _ (m n : Meaning) (rule : joinable m n ≡ true) where
     ap (joined m) h.2 ∙ set_second q 1 spoiled l h.1,
   )
   program_second q label d (Err e) n' l h = (asks_second m n rule q (length d) l ∙ h.0, ap (joined m) h.1)
-
-  -- ---- which of the two it was
-
-  pub side_first : (q : ℕ) → q < length m.pages → in_first ≡ side_of m n q
-  side_first q l =
-      sym (cond-true (ltb q (length m.pages)) in_first in_second (lt-ltb q (length m.pages) l))
-      ∙ sym (cond-true (joinable m n) (cond (ltb q (length m.pages)) in_first in_second) neither rule)
-
-  pub side_second : (q : ℕ) → length m.pages ≤ q → in_second ≡ side_of m n q
-  side_second q l =
-      sym (cond-false (ltb q (length m.pages)) in_first in_second (le-ltb q (length m.pages) l))
-      ∙ sym (cond-true (joinable m n) (cond (ltb q (length m.pages)) in_first in_second) neither rule)
-
-  pub block_first : (b : ℕ) → b < m.blocks → in_first ≡ block_side m n b
-  block_first b l =
-      sym (cond-true (ltb b m.blocks) in_first in_second (lt-ltb b m.blocks l))
-      ∙ sym (cond-true (joinable m n) (cond (ltb b m.blocks) in_first in_second) neither rule)
-
-  pub block_second : (b : ℕ) → m.blocks ≤ b → in_second ≡ block_side m n b
-  block_second b l =
-      sym (cond-false (ltb b m.blocks) in_first in_second (le-ltb b m.blocks l))
-      ∙ sym (cond-true (joinable m n) (cond (ltb b m.blocks) in_first in_second) neither rule)

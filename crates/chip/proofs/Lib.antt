@@ -1,7 +1,6 @@
 pub mod Windows
 pub mod Slots
 pub mod Reading
-pub mod Writing
 pub mod Placing
 pub mod Touching
 pub mod Wearing

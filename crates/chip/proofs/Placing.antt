@@ -1,16 +1,17 @@
 -- Where the pages of a chip in memory lie, and what is asked of them.
-use Rattle.std.proofs.Common.{◌≡◌, ℕ, ◌+◌, ◌-◌, ◌*◌, ◌<◌, ◌≤◌, Bool, true, false, cond, ltb, leb, List, ◌++◌, length, take, drop, set, replicate, Some, None, Ok, Err, Option, Result, sym, refl, ap, ◌∙◌, inl, inr, arith}
+use Rattle.std.proofs.Common.{◌≡◌, ℕ, zero, suc, zero-mul, ◌+◌, ◌-◌, ◌*◌, ◌<◌, ◌≤◌, Bool, true, false, cond, ltb, leb, List, ◌++◌, length, take, drop, set, replicate, Some, None, Ok, Err, Option, Result, sym, refl, ap, ◌∙◌, inl, inr, mul_assoc, arith}
 use borrow.Rule.Slice.PartMut.{put_mid}
 use Rattle.std.proofs.lemmas.List.{length-replicate, length-take, length-drop, drop-drop}
-use Rattle.std.proofs.lemmas.Bool.{cases_Bool, lt-ltb, le-ltb, le-leb, lt-leb}
+use Rattle.std.proofs.lemmas.Bool.{cases_Bool, cond-true, cond-false, ne_eqb, lt-ltb, le-leb, lt-leb}
+use Rattle.std.specs.declared.ops.Range.{Range}
 use Rattle.chip.specs.declared.size.Size.{Size}
 use Rattle.chip.specs.declared.words.Refusal.{Refusal}
 use Rattle.chip.specs.declared.words.Refusal.TheVariants.{NotThere, WrongKind, TooLong}
 use Rattle.chip.specs.Meaning.{Page, free, spoiled, written, Meaning, nothing, page_at}
 use Rattle.chip.specs.Calls.{is_free, asks_program, with_page, with_block_free, kind_of, kind_told, erase_told, erased, fetched_page, fetched, fetched_into, in_front, data_of}
-use Rattle.chip.specs.Slot.{wide, all_ones, page_of, fetched_onto, slot_at, with_slot, blank_block, pages_of, fits, laid}
-use Rattle.chip.specs.Makes.{means_of, Whole, Within, BlockWithin}
-use Rattle.chip.specs.Shaping.{length_pages, fit, made_laid, made_nothing}
+use Rattle.chip.specs.Slot.{wide, room, sized, all_ones, page_of, fetched_onto, slot_at, with_slot, blank_block, pages_of, fits, laid}
+use Rattle.chip.specs.Makes.{means_of, size_for, Whole, Within, BlockWithin}
+use Rattle.chip.specs.Shaping.{length_pages, fit, made_laid, made_nothing, made_zeros}
 use Rattle.chip.proofs.Windows.{length_patched}
 use Rattle.chip.proofs.Slots.{page_at_slot, slot_inside, block_inside, pages_with_slot, pages_with_block}
 
@@ -63,14 +64,17 @@ module _ (s : Size) (left : ℕ) (memory : List ℕ) where
     pub size_meant : meant.page_size ≡ size
     size_meant = ap (λ m. m.page_size) means_laid
 
-    pub within : (q w : ℕ) → q < count → w ≡ wide size → Within s (length memory) q (q * w)
-    within q w l e =
-        rw e (record { whole = whole; there = l; begins = refl; ends = slot_inside count size q memory long l })
+    pub within : (q : ℕ) (at : Range ℕ) → q < count → at.start ≡ q * wide size → at.end ≡ at.start + wide size → Within s (length memory) q at
+    within q at l e f =
+        let inside = slot_inside count size q memory long l in
+        record { whole = whole; there = l; begins = e; wide_slot = f; ends = omega arith }
 
-    pub block_within : (b w : ℕ) → b < s.blocks → w ≡ wide size
-        → BlockWithin s (length memory) b (b * s.pages_per_block * w) (b * s.pages_per_block * w + s.pages_per_block * w)
-    block_within b w l e =
-        rw e (record { whole = whole; there = l; begins = refl; wide_block = refl; ends = block_inside s.blocks s.pages_per_block size b memory long l })
+    pub block_within : (b : ℕ) (at : Range ℕ) → b < s.blocks → at.start ≡ b * (s.pages_per_block * wide size)
+        → at.end ≡ at.start + s.pages_per_block * wide size → BlockWithin s (length memory) b at
+    block_within b at l e f =
+        let from = e ∙ sym (mul_assoc b s.pages_per_block (wide size)) in
+        let inside = block_inside s.blocks s.pages_per_block size b memory long l in
+        record { whole = whole; there = l; begins = from; wide_block = f; ends = omega arith }
 
     -- ---- the questions of a program
 
@@ -122,11 +126,7 @@ module _ (s : Size) (left : ℕ) (memory : List ℕ) where
       pub told_erased : with_block_free meant b ≡ erased meant b
       told_erased = ap (λ t. cond t (with_block_free meant b) meant) (sym found)
 
-    -- what the code reads, where a slot begins at `at`
-    pub read_slot : (q at w : ℕ) → at ≡ q * wide size → w ≡ wide size → take ((at + w) - at) (drop at memory) ≡ slot q
-    read_slot q at w e f = let g : (at + w) - at ≡ wide size = omega arith in rw (g, e)
-
-  -- ---- a page or a block that is not there
+  -- ---- a page that is not there
 
   pub least_pages : (q : ℕ) → count ≤ q → length meant.pages ≤ q
   least_pages q l =
@@ -135,40 +135,48 @@ module _ (s : Size) (left : ℕ) (memory : List ℕ) where
         | inr other ↦ no_pages other q
       ]
 
-  pub no_blocks : good ≡ false → (b : ℕ) → meant.blocks ≤ b
-  no_blocks other b = omega (arith, ap (λ m. m.blocks) (means_nothing other))
-
-  pub least_blocks : (b : ℕ) → s.blocks ≤ b → meant.blocks ≤ b
-  least_blocks b l =
-      elim (cases_Bool good) [
-        | inl whole ↦ omega (arith, ap (λ m. m.blocks) (means_laid whole), l)
-        | inr other ↦ no_blocks other b
-      ]
-
-  pub asks_not_there : (q bytes : ℕ) → length meant.pages ≤ q → asks_program meant q bytes ≡ Some NotThere
-  asks_not_there q bytes l = rw (le-ltb q (length meant.pages) l)
-
 -- ---- what the code leaves in memory, and what that means
 
--- a slot that is written where it begins
-pub put_slot : (size q at w : ℕ) (left new memory : List ℕ) → at ≡ q * wide size → w ≡ wide size → left ≡ new
-    → put_mid at ((at + w) - at) memory left ≡ with_slot size q new memory
-put_slot size q at w left new memory e f g =
-    let h : (at + w) - at ≡ wide size = omega arith in
-    rw (g, h, e) (ap (λ z. take (q * wide size) memory ++ (new ++ z)) (drop-drop (wide size) (q * wide size) memory))
+module _ (s : Size) (memory : List ℕ) where
+  -- a slot where it lies
+  module _ (q : ℕ) (at : Range ℕ) (in' : Within s (length memory) q at) where
+    span : at.end - at.start ≡ wide s.page_size
+    span = let e = in'.wide_slot in omega arith
 
--- a slot is as long as it should be
-pub length_slot_at : (size at w : ℕ) (memory : List ℕ) → at + wide size ≤ length memory → w ≡ wide size → length (take ((at + w) - at) (drop at memory)) ≡ wide size
-length_slot_at size at w memory inside e = let g : (at + w) - at ≡ wide size = omega arith in rw g (simp (length-take, length-drop) (omega arith))
+    pub room_read : room (take (at.end - at.start) (drop at.start memory)) ≡ s.page_size
+    room_read = let e = in'.wide_slot in let l = in'.ends in rw span (simp (length-take, length-drop) (omega arith))
 
--- a block that is erased where it lies
-pub put_block : (size per b from to : ℕ) (left memory : List ℕ) → from ≡ b * per * wide size → to ≡ from + per * wide size → to ≤ length memory
-    → left ≡ replicate (length (take (to - from) (drop from memory))) 255 → put_mid from (to - from) memory left ≡ blank_block size per b memory
-put_block size per b from to left memory e f inside g =
-    let h : to - from ≡ per * wide size = omega arith in
-    let l : length (take (per * wide size) (drop (b * per * wide size) memory)) ≡ per * wide size = simp (length-take, length-drop) (omega arith) in
-    rw (g, h, e, l)
-    (ap (λ z. take (b * per * wide size) memory ++ (replicate (per * wide size) 255 ++ z)) (drop-drop (per * wide size) (b * per * wide size) memory))
+    pub put_slot : (left new : List ℕ) → left ≡ new → put_mid at.start (at.end - at.start) memory left ≡ with_slot s.page_size q new memory
+    put_slot left new e =
+        rw (e, span, in'.begins)
+        (ap (λ z. take (q * wide s.page_size) memory ++ (new ++ z)) (drop-drop (wide s.page_size) (q * wide s.page_size) memory))
+
+-- ---- what is known of the sizes
+
+some_factor : (n per q : ℕ) → q < n * per → 0 < n
+some_factor zero per q l = absurd (omega (arith, zero-mul per, l))
+some_factor (suc n) per q l = omega arith
+
+pub whole_when : (s : Size) (long : ℕ) → sized s.blocks s.pages_per_block s.page_size long ≡ true → 0 < s.blocks → Whole s long
+whole_when s long e some = rw (ne_eqb s.blocks 0 (λ z. omega (arith, z, some))) at e
+
+pub whole_at : (s : Size) (long : ℕ) → sized s.blocks s.pages_per_block s.page_size long ≡ true → (q : ℕ) → q < s.blocks * s.pages_per_block → Whole s long
+whole_at s long e q l = whole_when s long e (some_factor s.blocks s.pages_per_block q l)
+
+pub means_none : (s : Size) (left : ℕ) (memory : List ℕ) → s.blocks ≡ 0 → means_of s left memory ≡ nothing
+unfolding fits
+means_none s left memory e = rw e
+
+pub means_for : (s : Size) (left : ℕ) (memory : List ℕ) → means_of (size_for s (length memory)) left memory ≡ means_of s left memory
+means_for s left memory =
+    let none : Size = record { blocks = 0; pages_per_block = 0; page_size = 0 } in
+    elim (cases_Bool (fits s.blocks s.pages_per_block s.page_size (length memory))) [
+      | inl whole ↦ ap (λ z. means_of z left memory) (cond-true (fits s.blocks s.pages_per_block s.page_size (length memory)) s none whole)
+      | inr other ↦
+          ap (λ z. means_of z left memory) (cond-false (fits s.blocks s.pages_per_block s.page_size (length memory)) s none other)
+          ∙ made_zeros left memory
+          ∙ sym (made_nothing s.blocks s.pages_per_block s.page_size left memory other)
+    ]
 
 module _ (s : Size) (left : ℕ) (memory : List ℕ) (whole : Whole s (length memory)) where
   abbrev n : ℕ

@@ -4,12 +4,11 @@ use Rattle.std.proofs.lemmas.Bool.{le-ltb, cond-false}
 use Rattle.chip.specs.declared.plain.Plain.{Plain}
 use Rattle.chip.specs.declared.size.Size.{Size}
 use Rattle.chip.specs.declared.words.Refusal.{Refusal}
-use Rattle.chip.specs.declared.words.Refusal.TheVariants.{NotThere}
 use Rattle.chip.specs.Meaning.{Meaning, nothing}
-use Rattle.chip.specs.Calls.{with_page, with_block_free, erase_told, erased}
-use Rattle.chip.specs.Slot.{laid, fits, page_of, block_erased}
-use Rattle.chip.specs.Makes.{means_of, plain_means, Touched, Blanked, Untouched, Wiped}
-use Rattle.chip.proofs.Placing.{means_written, means_erased, told_erase, told_erased}
+use Rattle.chip.specs.Calls.{with_page, with_block_free, erased}
+use Rattle.chip.specs.Slot.{laid, fits, page_of}
+use Rattle.chip.specs.Makes.{means_of, Touched, Blanked, Untouched, Wiped}
+use Rattle.chip.proofs.Placing.{means_written, means_erased, told_erased}
 
 -- ---- what does not look at the allowance is the same whatever that is
 
@@ -42,14 +41,7 @@ blanked_means left p p' b t =
 pub untouched_means : (left : ℕ) (p p' : Plain) → Untouched p p' → means_of p'.size left p'.memory.now ≡ means_of p.size left p.memory.now
 untouched_means left p p' t = ap (λ s. means_of s left p'.memory.now) t.0 ∙ ap (means_of p.size left) t.1
 
--- ---- what an erase answers
-
-pub wiped_value : (left : ℕ) (p p' : Plain) (b : ℕ) (r : Result (Unit {0}) Refusal) → Wiped p b r p' → r ≡ erase_told (means_of p.size left p.memory.now) b
-wiped_value left p p' b (Ok done) t = told_erase p.size left p.memory.now t.whole b t.there
-wiped_value left p p' b (Err e) t =
-    ap Err t.0
-    ∙ sym (cond-false (ltb b (plain_means p).blocks) (Ok tt) (Err NotThere) (le-ltb b (plain_means p).blocks t.1))
-    ∙ swap_left (λ m. erase_told m b) p.size 0 left p.memory.now refl
+-- ---- what an erase leaves
 
 pub wiped_means : (left : ℕ) (p p' : Plain) (b : ℕ) (r : Result (Unit {0}) Refusal) → Wiped p b r p'
     → means_of p'.size left p'.memory.now ≡ erased (means_of p.size left p.memory.now) b
@@ -58,8 +50,3 @@ wiped_means left p p' b (Err e) t =
     let m = means_of p.size left p.memory.now in
     let none : ltb b m.blocks ≡ false = le-ltb b m.blocks (subst (λ n. n ≤ b) (swap_left (λ z. z.blocks) p.size 0 left p.memory.now refl) t.1) in
     untouched_means left p p' t.2 ∙ sym (cond-false (ltb b m.blocks) (with_block_free m b) m none)
-
-pub wiped_bytes : (p p' : Plain) (b : ℕ) (r : Result (Unit {0}) Refusal) → Wiped p b r p'
-    → p'.memory.now ≡ block_erased p.size.page_size p.size.pages_per_block b r p.memory.now
-wiped_bytes p p' b (Ok done) t = t.bytes
-wiped_bytes p p' b (Err e) t = t.2.1

@@ -1,38 +1,23 @@
 -- How the gaps of a flawed chip wear, in its table and over many programs.
-use Rattle.std.proofs.Common.{◌≡◌, ℕ, zero, suc, ◌+◌, ◌-◌, ◌<◌, ◌≤◌, true, false, leb, List, [], ◌∷◌, ◌++◌, length, get_or, take, drop, set, replicate, sym, refl, ap, ◌∙◌, add-one, arith}
+use Rattle.std.proofs.Common.{◌≡◌, ℕ, zero, suc, ◌-◌, ◌≤◌, true, false, not, ◌&&◌, eqb, leb, List, [], ◌∷◌, ◌++◌, length, take, drop, replicate, refl, ap, ◌∙◌, add-one, arith}
 use borrow.Rule.Slice.PartMut.{put_mid}
-use Rattle.std.proofs.lemmas.List.{append-nil, length-drop, length-take-le, drop_at, drop_more, drop_all, drop-set}
-use Rattle.std.proofs.lemmas.Bool.{le-leb, lt-leb, cond-true, cond-false}
-use Rattle.chip.specs.Gaps.{strikes, worn, verdicts, worn_by, GapLaw}
-
--- ---- one program
-
-module _ (table : List ℕ) (next : ℕ) (long : length table ≡ 8) where
-  abbrev counts : ℕ
-  counts = get_or table next 0
-
-  abbrev later : List ℕ
-  later = drop (next + 1) table
-
-  pub none_left : 8 ≤ next → drop next table ≡ []
-  none_left past = drop_all next table (omega arith)
-
-  some_left : next < 8 → drop next table ≡ counts ∷ later
-  some_left some = drop_more table next 0 (omega arith)
-
-  pub strikes_is : next < 8 → leb counts 1 ≡ strikes (drop next table)
-  strikes_is some = ap strikes (sym (some_left some))
-
-  pub worn_strike : next < 8 → counts ≤ 1 → drop (next + 1) table ≡ worn (drop next table)
-  worn_strike some down = sym (cond-true (leb counts 1) later ((counts - 1) ∷ later) (le-leb counts 1 down)) ∙ ap worn (sym (some_left some))
-
-  pub worn_pass : next < 8 → 1 < counts → drop next (set table next (counts - 1)) ≡ worn (drop next table)
-  worn_pass some up =
-      drop-set table next (counts - 1) (omega arith)
-      ∙ sym (cond-false (leb counts 1) later ((counts - 1) ∷ later) (lt-leb counts 1 up))
-      ∙ ap worn (sym (some_left some))
+use Rattle.std.specs.List.{list_any}
+use Rattle.std.proofs.lemmas.List.{append-nil, length-drop, length-take-le, drop_at, drop_all}
+use Rattle.std.proofs.lemmas.Bool.{le-leb, lt-ltb, ne_eqb, lt-leb}
+use Rattle.chip.specs.Gaps.{verdicts, worn_by, none_zero, good_gaps, GapLaw}
 
 -- ---- a table that was just filled
+
+zeros_found : (gs : List ℕ) → none_zero gs ≡ not (list_any (λ g. eqb g 0) gs)
+zeros_found [] = refl
+zeros_found (zero ∷ gs) = refl
+zeros_found (suc g ∷ gs) = rw (lt-ltb 0 (suc g) (omega arith), ne_eqb (suc g) 0 (λ e. omega (arith, e))) (zeros_found gs)
+
+pub good_when : (gs : List ℕ) → length gs ≤ 8 → list_any (λ g. eqb g 0) gs ≡ false → good_gaps gs ≡ true
+good_when gs few e = rw (le-leb (length gs) 8 few, zeros_found gs, e) refl
+
+pub bad_when : (gs : List ℕ) → list_any (λ g. eqb g 0) gs ≡ true → good_gaps gs ≡ false
+bad_when gs e = rw (zeros_found gs, e) (elim (leb (length gs) 8) as (λ t. (t && false) ≡ false) [ true ↦ refl | false ↦ refl ])
 
 pub filled : (zs gaps put : List ℕ) (next : ℕ) → length zs ≡ 8 → next ≤ 8 → 8 - next ≡ length gaps → put ≡ gaps → drop next (put_mid next (8 - next) zs put) ≡ gaps
 filled zs gaps put next long few count e =

@@ -3,7 +3,7 @@
 -- number           the number of a refusal
 -- shape_of         what `shape` answers
 -- kind_of          what kind a page is; `kind_told` what `kind` answers
--- asks_program     the first question of a call that fails, if any does (likewise asks-fetch, asks-erase)
+-- asks_program     the first question of a program that fails, if any does
 -- programmed       the meaning after an accepted program that was good, or that failed
 -- Programmed       what a program may answer, and what the chip then means
 -- fetched          what `fetch` answers; `fetched_into` what the caller's buffer then holds

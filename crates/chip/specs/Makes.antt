@@ -1,6 +1,7 @@
 -- What the makes of chips mean, by the bytes of their memory.
 --
 -- means_of       what memory means to a chip of some size, with so many failures left
+-- size_for       the size that a chip takes on: what it is asked to be, or nothing
 -- Whole          the sizes are in range, and memory is as long as they ask
 -- plain_means    what a plain chip means: its memory, and no failure
 -- NeverFails     a program that was accepted was good
@@ -8,19 +9,21 @@
 -- gaps_of        the gaps that a flawed chip has left, the one that counts first
 -- Counted        which program fails, and what it leaves of the gaps
 -- made_flawed    what a flawed chip that was just made means
--- Placed         where the slot of a page lies; `Opened` the same of a page that may be programmed
+-- Held           the slot of a page; `Opened` where the slot lies of a page that may be programmed
 -- Bounded        where the slots of a block lie
 -- Put            memory after a program, as good or failed as the slot says; `Wiped` after an erase
 use Rattle.std.specs.Prelude.{◌≡◌, ℕ, ◌+◌, ◌-◌, ◌*◌, ◌<◌, ◌≤◌, Bool, true, cond, not, List, length, drop, Some, None, Ok, Err, Result}
+use Rattle.std.specs.declared.ops.Range.{Range}
 use Rattle.chip.specs.declared.plain.Plain.{Plain}
 use Rattle.chip.specs.declared.flawed.Flawed.{Flawed}
 use Rattle.chip.specs.declared.size.Size.{Size}
+use Rattle.chip.specs.declared.slot.Slot.{Slot}
 use Rattle.chip.specs.declared.words.Refusal.{Refusal}
 use Rattle.chip.specs.declared.words.Refusal.TheVariants.{NotThere}
 use Rattle.chip.specs.Meaning.{Meaning, nothing}
 use Rattle.chip.specs.Calls.{asks_program}
 use Rattle.chip.specs.Gaps.{strikes, worn, good_gaps}
-use Rattle.chip.specs.Slot.{wide, fits, made, with_slot, blank_block}
+use Rattle.chip.specs.Slot.{wide, room, slot_at, fits, made, with_slot, blank_block}
 
 abbrev pub means_of : Size → ℕ → List ℕ → Meaning
 means_of s left memory = made s.blocks s.pages_per_block s.page_size left memory
@@ -28,6 +31,11 @@ means_of s left memory = made s.blocks s.pages_per_block s.page_size left memory
 -- the sizes are in range, and memory is as long as they ask
 abbrev pub Whole : Size → ℕ → Type 0
 Whole s long = fits s.blocks s.pages_per_block s.page_size long ≡ true
+
+-- the size that a chip takes on in memory of so many bytes
+abbrev pub size_for : Size → ℕ → Size
+size_for s long =
+    cond (fits s.blocks s.pages_per_block s.page_size long) s (record { blocks = 0; pages_per_block = 0; page_size = 0 })
 
 -- ---- plain
 
@@ -38,31 +46,39 @@ abbrev pub NeverFails : Result Bool Refusal → Type 0
 NeverFails (Ok good) = good ≡ true
 NeverFails (Err e) = Unit {0}
 
--- the slot of a page begins at some byte, and lies in memory of the right length
-pub record Within (s : Size) (long q at : ℕ) : Type 0 where
+-- the slot of a page is some range of memory of the right length
+pub record Within (s : Size) (long q : ℕ) (at : Range ℕ) : Type 0 where
   pub whole : Whole s long
   pub there : q < s.blocks * s.pages_per_block
-  pub begins : at ≡ q * wide s.page_size
-  pub ends : at + wide s.page_size ≤ long
+  pub begins : at.start ≡ q * wide s.page_size
+  pub wide_slot : at.end ≡ at.start + wide s.page_size
+  pub ends : at.end ≤ long
 
-abbrev pub Placed : Plain → ℕ → Result ℕ Refusal → Type 0
-Placed p q (Ok at) = Within p.size (length p.memory.now) q at
-Placed p q (Err e) = (e ≡ NotThere) × (length (plain_means p).pages ≤ q)
+-- the bytes of a page's slot
+pub record Holding (p : Plain) (q : ℕ) (slot : Slot) : Type 0 where
+  pub whole : Whole p.size (length p.memory.now)
+  pub there : q < p.size.blocks * p.size.pages_per_block
+  pub bytes : slot.bytes.now ≡ slot_at p.size.page_size q p.memory.now
+  pub wide_slot : room slot.bytes.now ≡ p.size.page_size
 
-abbrev pub Opened : Plain → ℕ → ℕ → Result ℕ Refusal → Type 0
+abbrev pub Held : Plain → ℕ → Result Slot Refusal → Type 0
+Held p q (Ok slot) = Holding p q slot
+Held p q (Err e) = (e ≡ NotThere) × (length (plain_means p).pages ≤ q)
+
+abbrev pub Opened : Plain → ℕ → ℕ → Result (Range ℕ) Refusal → Type 0
 Opened p q long (Ok at) = (asks_program (plain_means p) q long ≡ None) × Within p.size (length p.memory.now) q at × (long ≤ p.size.page_size)
 Opened p q long (Err e) = asks_program (plain_means p) q long ≡ Some e
 
--- the slots of a block lie between two bytes
-pub record BlockWithin (s : Size) (long b from to : ℕ) : Type 0 where
+-- the slots of a block are some range of memory
+pub record BlockWithin (s : Size) (long b : ℕ) (at : Range ℕ) : Type 0 where
   pub whole : Whole s long
   pub there : b < s.blocks
-  pub begins : from ≡ b * s.pages_per_block * wide s.page_size
-  pub wide_block : to ≡ from + s.pages_per_block * wide s.page_size
-  pub ends : to ≤ long
+  pub begins : at.start ≡ b * s.pages_per_block * wide s.page_size
+  pub wide_block : at.end ≡ at.start + s.pages_per_block * wide s.page_size
+  pub ends : at.end ≤ long
 
-abbrev pub Bounded : Plain → ℕ → Result (ℕ × ℕ) Refusal → Type 0
-Bounded p b (Ok found) = BlockWithin p.size (length p.memory.now) b found.0 found.1
+abbrev pub Bounded : Plain → ℕ → Result (Range ℕ) Refusal → Type 0
+Bounded p b (Ok at) = BlockWithin p.size (length p.memory.now) b at
 Bounded p b (Err e) = (e ≡ NotThere) × ((plain_means p).blocks ≤ b)
 
 -- ---- what the memory is after a call

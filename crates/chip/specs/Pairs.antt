@@ -1,12 +1,13 @@
 -- Two chips as one.
 --
 -- joinable         the rule of a pair: pages alike, and blocks and allowances that add up within a chip's limits
+-- both_shapes      the shape of two chips that follow it
 -- joined           what two chips mean as one: the first one's pages come first, allowances add; nothing outside the rule
 -- side_of          which of the two a page lies in; `block_side` which of the two a block lies in
 -- ProgramsOne      a program reached just one of the two, and left the other as it was
 -- ErasesOne        the same of an erase
 -- joined_shaped    a pair has the shape that every chip has
-use Rattle.std.specs.Prelude.{◌≡◌, ℕ, ◌+◌, ◌-◌, ◌*◌, ◌≤◌, Bool, true, cond, ◌&&◌, List, ◌++◌, length, Err, Result, ◌==◌, nat_le, nat_lt}
+use Rattle.std.specs.Prelude.{◌≡◌, ℕ, ◌+◌, ◌-◌, ◌*◌, ◌≤◌, Bool, true, cond, ◌&&◌, List, ◌++◌, length, Some, None, Err, Option, Result, ◌==◌, nat_le, nat_lt}
 use Rattle.std.proofs.Common.{inl, inr, sym, ap, subst, ◌∙◌, add-mul, arith}
 use Rattle.std.proofs.lemmas.List.{length-append}
 use Rattle.std.proofs.lemmas.Bool.{cases_Bool, and_parts, eqb-true, leb-true, cond-true, cond-false}
@@ -20,6 +21,13 @@ abbrev pub shapes_fit : Shape → Shape → Bool
 shapes_fit a b =
     (a.pages_per_block == b.pages_per_block && a.page_size == b.page_size)
     && (nat_le (a.blocks + b.blocks) 64 && nat_le (a.allowance + b.allowance) 65535)
+
+-- the shape of two chips as one
+abbrev pub both_shapes : Shape → Shape → Option Shape
+both_shapes a b =
+    cond (shapes_fit a b)
+    (Some (record { blocks = a.blocks + b.blocks; pages_per_block = a.pages_per_block; page_size = a.page_size; allowance = a.allowance + b.allowance }))
+    None
 
 abbrev pub joinable : Meaning → Meaning → Bool
 joinable m n = shapes_fit (shape_of m) (shape_of n)

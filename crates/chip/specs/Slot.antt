@@ -1,6 +1,6 @@
 -- How a page lies in memory: a slot of 16 + B bytes, numbers big-endian.
 --
--- wide         how many bytes a slot takes
+-- wide         how many bytes a slot takes; `room` how many bytes of data it has room for
 -- high, low    the two bytes of a number, the high one first
 -- two          the number that two bytes of a slot stand for
 -- slot_of      the slot that a label and data are written as
@@ -12,15 +12,20 @@
 -- pages_of     the pages that memory means: its slots, one by one
 -- laid         what memory means as a chip of some size
 -- fits         sizes that a chip may have, and memory of just that length
+-- sized        no pages, or sizes that fit
 -- made         what a chip that is made of memory means
 -- Layout       the laws that tie the two directions
-use Rattle.std.specs.Prelude.{◌≡◌, ℕ, zero, suc, ◌+◌, ◌-◌, ◌*◌, ◌/◌, ◌%◌, ◌<◌, ◌≤◌, Bool, true, false, cond, ◌&&◌, List, [], ◌∷◌, ◌++◌, length, take, drop, replicate, Ok, Err, Result, ◌==◌, nat_le, nat_lt, slice_index, slice_set}
+use Rattle.std.specs.Prelude.{◌≡◌, ℕ, zero, suc, ◌+◌, ◌-◌, ◌*◌, ◌/◌, ◌%◌, ◌<◌, ◌≤◌, Bool, true, false, cond, ◌&&◌, ◌||◌, List, [], ◌∷◌, ◌++◌, length, take, drop, replicate, Ok, Err, Result, ◌==◌, nat_le, nat_lt, slice_index, slice_set}
 use Rattle.chip.specs.Meaning.{Page, free, spoiled, written, Meaning, nothing}
 use Rattle.chip.specs.Calls.{wiped, data_of, in_front}
 use Rattle.chip.specs.declared.words.Refusal.{Refusal}
 
 abbrev pub wide : ℕ → ℕ
 wide size = 16 + size
+
+-- how many bytes of data a slot has room for
+abbrev pub room : List ℕ → ℕ
+room slot = length slot - 16
 
 -- ---- from a page to its slot
 
@@ -109,6 +114,10 @@ taken n per_block size = n * per_block * wide size
 
 unfoldable pub fits : ℕ → ℕ → ℕ → ℕ → Bool
 fits n per_block size long = in_range n per_block size && taken n per_block size == long
+
+-- no pages, or sizes that fit
+abbrev pub sized : ℕ → ℕ → ℕ → ℕ → Bool
+sized n per_block size long = n == 0 || fits n per_block size long
 
 -- what a chip that is made of memory means: nothing, unless the sizes are in range and the memory is as long as they ask
 abbrev pub made : ℕ → ℕ → ℕ → ℕ → List ℕ → Meaning

@@ -1,22 +1,13 @@
 ghost use Rattle.std.specs.Prelude.{◌≡◌, ◌-◌, ◌≤◌, true, false, [], length, drop, if◌then◌else◌, MatchOption};
-ghost use Rattle.chip.specs.Gaps.{strikes, worn, none_zero, good_gaps};
+ghost use Rattle.chip.specs.Gaps.{strikes, worn, good_gaps};
 
 // The gaps of a flawed chip, at the end of the table. The one at `next` counts, and those before it are spent.
+// The table is as large as it may get, since a chip has no memory but what it is lent. No ghost field says that
+// `next` is at most 8: a chip that holds a `&mut` and such a struct is not proved where it is a type argument.
 #[derive(Clone, Copy)]
 pub(crate) struct Gaps {
     table: [u16; 8],
     next: usize,
-}
-
-fn none_zero(gaps: &[u16]) -> bool
-    ensures { result ≡ none_zero gaps.now }
-{
-    for g in gaps {
-        if *g == 0 {
-            return false;
-        }
-    }
-    true
 }
 
 impl Gaps {
@@ -32,11 +23,10 @@ impl Gaps {
     pub(crate) fn new(gaps: &[u16]) -> Option<Gaps>
         ensures { MatchOption result (good_gaps gaps.now ≡ false) (λ g. (good_gaps gaps.now ≡ true) × (8 - g.next ≡ length gaps.now) × (drop g.next g.table ≡ gaps.now)) }
     {
-        let count = gaps.len();
-        if count > 8 || !none_zero(gaps) {
+        if gaps.len() > 8 || gaps.contains(&0) {
             return None;
         }
-        let next = 8 - count;
+        let next = 8 - gaps.len();
         let mut table = [0; 8];
         table[next..].copy_from_slice(gaps);
         Some(Gaps { table, next })
@@ -46,11 +36,7 @@ impl Gaps {
     pub(crate) fn left(&self) -> u16
         ensures { result ≡ 8 - self.now.next }
     {
-        if self.next < 8 {
-            (8 - self.next) as u16
-        } else {
-            0
-        }
+        8usize.saturating_sub(self.next) as u16
     }
 
     // Whether the next accepted program fails.
@@ -58,7 +44,7 @@ impl Gaps {
         ensures value { result ≡ strikes (drop self.now.next self.now.table) }
         ensures some { result ≡ true → 1 ≤ 8 - self.now.next }
     {
-        self.next < 8 && self.table[self.next] <= 1
+        self.table.get(self.next).is_some_and(|gap| *gap <= 1)
     }
 
     // Counts an accepted program.
@@ -66,14 +52,10 @@ impl Gaps {
         ensures after { drop self.new.next self.new.table ≡ worn (drop self.old.next self.old.table) }
         ensures left { 8 - self.new.next ≡ (8 - self.old.next) - (if strikes (drop self.old.next self.old.table) then 1 else 0) }
     {
-        let at = self.next;
-        if at >= 8 {
-            return;
-        }
-        if self.table[at] <= 1 {
-            self.next = at + 1;
-        } else {
-            self.table[at] -= 1;
+        match self.table.get(self.next) {
+            Some(gap) if *gap > 1 => self.table[self.next] -= 1,
+            Some(_) => self.next += 1,
+            None => {}
         }
     }
 }

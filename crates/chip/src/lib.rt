@@ -14,4 +14,5 @@ pub use chip::Chip;
 pub use flawed::Flawed;
 pub use pair::Pair;
 pub use plain::Plain;
+pub use size::Size;
 pub use words::{Kind, Refusal, Shape};

@@ -1,7 +1,7 @@
 ghost use Rattle.std.specs.Prelude.{◌≡◌, length};
 ghost use Rattle.chip.specs.Calls.{shape_of, kind_told, Programmed, fetched, fetched_into, erase_told, erased};
-ghost use Rattle.chip.specs.Fronts.{front_of};
-ghost use Rattle.chip.specs.Pairs.{shapes_fit, joined, joined_shaped, side_of, block_side, ProgramsOne, ErasesOne};
+ghost use Rattle.chip.specs.Fronts.{front_of, Splits, PageIn, BlockIn};
+ghost use Rattle.chip.specs.Pairs.{joined, joined_shaped, side_of, block_side, ProgramsOne, ErasesOne};
 
 use crate::chip::Chip;
 use crate::words::{Kind, Refusal, Shape};
@@ -14,19 +14,24 @@ pub struct Pair<A: Chip, B: Chip> {
     second: B,
 }
 
-// How much of a pair its first chip is.
+// Which of the two chips a page or a block lies in, and its number there.
 #[derive(Clone, Copy)]
-struct Front {
-    blocks: u16,
-    pages: u16,
+enum Half {
+    First(u16),
+    Second(u16),
 }
 
-fn fit(a: &Shape, b: &Shape) -> bool
-    ensures { result ≡ shapes_fit a.now b.now }
-{
-    (a.pages_per_block == b.pages_per_block && a.page_size == b.page_size)
-        && (a.blocks as u32 + b.blocks as u32 <= 64
-            && a.allowance as u32 + b.allowance as u32 <= 65535)
+impl Half {
+    // Where a number lies, if the first chip has so many.
+    fn of(number: u16, first: u16) -> Half
+        ensures { Splits number first result }
+    {
+        if number < first {
+            Half::First(number)
+        } else {
+            Half::Second(number - first)
+        }
+    }
 }
 
 impl<A: Chip, B: Chip> Pair<A, B> {
@@ -39,21 +44,35 @@ impl<A: Chip, B: Chip> Pair<A, B> {
         Pair { first, second }
     }
 
-    // How much of the pair its first chip is, if the two fit together.
-    fn front(&mut self) -> Option<Front>
+    // The shape of the first chip, if the two fit together.
+    fn front(&mut self) -> Result<Shape, Refusal>
         ensures value { result ≡ front_of (A.Chip.means self.old.first) (B.Chip.means self.old.second) }
         ensures first { A.Chip.means self.new.first ≡ A.Chip.means self.old.first }
         ensures second { B.Chip.means self.new.second ≡ B.Chip.means self.old.second }
     {
-        let a = self.first.shape();
-        let b = self.second.shape();
-        if !fit(&a, &b) {
-            return None;
-        }
-        Some(Front {
-            blocks: a.blocks,
-            pages: a.blocks * a.pages_per_block,
-        })
+        let front = self.first.shape();
+        let back = self.second.shape();
+        front.join(back).map(|_| front).ok_or(Refusal::NotThere)
+    }
+
+    // Which of the two a page lies in.
+    fn page(&mut self, page: u16) -> Result<Half, Refusal>
+        ensures value { PageIn (A.Chip.means self.old.first) (B.Chip.means self.old.second) page result }
+        ensures first { A.Chip.means self.new.first ≡ A.Chip.means self.old.first }
+        ensures second { B.Chip.means self.new.second ≡ B.Chip.means self.old.second }
+    {
+        let front = self.front()?;
+        Ok(Half::of(page, front.blocks * front.pages_per_block))
+    }
+
+    // Which of the two a block lies in.
+    fn block(&mut self, block: u16) -> Result<Half, Refusal>
+        ensures value { BlockIn (A.Chip.means self.old.first) (B.Chip.means self.old.second) block result }
+        ensures first { A.Chip.means self.new.first ≡ A.Chip.means self.old.first }
+        ensures second { B.Chip.means self.new.second ≡ B.Chip.means self.old.second }
+    {
+        let front = self.front()?;
+        Ok(Half::of(block, front.blocks))
     }
 }
 
@@ -68,22 +87,9 @@ impl<A: Chip, B: Chip> Chip for Pair<A, B> {
         ensures first { A.Chip.means self.new.first ≡ A.Chip.means self.old.first }
         ensures second { B.Chip.means self.new.second ≡ B.Chip.means self.old.second }
     {
-        let a = self.first.shape();
-        let b = self.second.shape();
-        if !fit(&a, &b) {
-            return Shape {
-                blocks: 0,
-                pages_per_block: 0,
-                page_size: 0,
-                allowance: 0,
-            };
-        }
-        Shape {
-            blocks: a.blocks + b.blocks,
-            pages_per_block: a.pages_per_block,
-            page_size: a.page_size,
-            allowance: a.allowance + b.allowance,
-        }
+        let front = self.first.shape();
+        let back = self.second.shape();
+        front.join(back).unwrap_or_default()
     }
 
     fn kind(&mut self, page: u16) -> Result<Kind, Refusal>
@@ -92,13 +98,9 @@ impl<A: Chip, B: Chip> Chip for Pair<A, B> {
         ensures first { A.Chip.means self.new.first ≡ A.Chip.means self.old.first }
         ensures second { B.Chip.means self.new.second ≡ B.Chip.means self.old.second }
     {
-        let Some(front) = self.front() else {
-            return Err(Refusal::NotThere);
-        };
-        if page < front.pages {
-            self.first.kind(page)
-        } else {
-            self.second.kind(page - front.pages)
+        match self.page(page)? {
+            Half::First(page) => self.first.kind(page),
+            Half::Second(page) => self.second.kind(page),
         }
     }
 
@@ -106,13 +108,9 @@ impl<A: Chip, B: Chip> Chip for Pair<A, B> {
         ensures effect { Programmed (joined (A.Chip.means self.old.first) (B.Chip.means self.old.second)) page label bytes.now result (joined (A.Chip.means self.new.first) (B.Chip.means self.new.second)) }
         ensures one { ProgramsOne (side_of (A.Chip.means self.old.first) (B.Chip.means self.old.second) page) (A.Chip.means self.old.first) (B.Chip.means self.old.second) page label bytes.now result (A.Chip.means self.new.first) (B.Chip.means self.new.second) }
     {
-        let Some(front) = self.front() else {
-            return Err(Refusal::NotThere);
-        };
-        if page < front.pages {
-            self.first.program(page, label, bytes)
-        } else {
-            self.second.program(page - front.pages, label, bytes)
+        match self.page(page)? {
+            Half::First(page) => self.first.program(page, label, bytes),
+            Half::Second(page) => self.second.program(page, label, bytes),
         }
     }
 
@@ -123,13 +121,9 @@ impl<A: Chip, B: Chip> Chip for Pair<A, B> {
         ensures first { A.Chip.means self.new.first ≡ A.Chip.means self.old.first }
         ensures second { B.Chip.means self.new.second ≡ B.Chip.means self.old.second }
     {
-        let Some(front) = self.front() else {
-            return Err(Refusal::NotThere);
-        };
-        if page < front.pages {
-            self.first.fetch(page, buffer)
-        } else {
-            self.second.fetch(page - front.pages, buffer)
+        match self.page(page)? {
+            Half::First(page) => self.first.fetch(page, buffer),
+            Half::Second(page) => self.second.fetch(page, buffer),
         }
     }
 
@@ -138,13 +132,9 @@ impl<A: Chip, B: Chip> Chip for Pair<A, B> {
         ensures after { joined (A.Chip.means self.new.first) (B.Chip.means self.new.second) ≡ erased (joined (A.Chip.means self.old.first) (B.Chip.means self.old.second)) block }
         ensures one { ErasesOne (block_side (A.Chip.means self.old.first) (B.Chip.means self.old.second) block) (A.Chip.means self.old.first) (B.Chip.means self.old.second) block result (A.Chip.means self.new.first) (B.Chip.means self.new.second) }
     {
-        let Some(front) = self.front() else {
-            return Err(Refusal::NotThere);
-        };
-        if block < front.blocks {
-            self.first.erase(block)
-        } else {
-            self.second.erase(block - front.blocks)
+        match self.block(block)? {
+            Half::First(block) => self.first.erase(block),
+            Half::Second(block) => self.second.erase(block),
         }
     }
 }

@@ -1,3 +1,6 @@
+ghost use Rattle.std.specs.Prelude.{◌≡◌, true, length};
+ghost use Rattle.chip.specs.Slot.{sized};
+
 mod calls;
 
 use crate::size::Size;
@@ -6,5 +9,7 @@ use crate::size::Size;
 #[derive(Drop)]
 pub struct Plain<'a> {
     memory: &'a mut [u8],
+    // It has no pages, or takes just this memory.
     size: Size,
+    ghost sized: { sized size.blocks size.pages_per_block size.page_size (length memory.now) ≡ true },
 }

@@ -1,30 +1,66 @@
-ghost use Rattle.std.specs.Prelude.{◌≡◌};
-ghost use Rattle.chip.specs.Slot.{in_range, fits};
+ghost use Rattle.std.specs.Prelude.{◌≡◌, ◌+◌, ◌*◌};
+ghost use Rattle.chip.specs.Slot.{wide, in_range, fits};
 
 use crate::slot;
+use std::ops::Range;
 
-// How large a chip in memory is to be. Nothing is known of the numbers: each call asks whether they fit the memory.
-#[derive(Clone, Copy)]
-pub(crate) struct Size {
-    pub(crate) blocks: u16,
-    pub(crate) pages_per_block: u16,
-    pub(crate) page_size: u16,
+// How large a chip in memory is to be. By default it has no pages.
+#[derive(Clone, Copy, PartialEq, Eq, Debug, Default)]
+pub struct Size {
+    pub blocks: u16,
+    pub pages_per_block: u16,
+    pub page_size: u16,
 }
 
 impl Size {
-    fn in_range(&self) -> bool
-        ensures { result ≡ in_range self.now.blocks self.now.pages_per_block self.now.page_size }
+    // How many pages there are.
+    pub(crate) fn pages(self) -> usize
+        ensures { result ≡ self.blocks * self.pages_per_block }
     {
-        (0 < self.blocks && self.blocks <= 64)
-            && ((1 < self.pages_per_block && self.pages_per_block <= 32)
-                && (0 < self.page_size && self.page_size <= 512))
+        self.blocks as usize * self.pages_per_block as usize
+    }
+
+    // How many bytes a slot takes.
+    fn wide(self) -> usize
+        ensures { result ≡ wide self.page_size }
+    {
+        slot::HEADER + self.page_size as usize
+    }
+
+    // Where the slot of a page lies.
+    pub(crate) fn slot(self, page: u16) -> Range<usize>
+        ensures from { result.start ≡ page * wide self.page_size }
+        ensures to { result.end ≡ result.start + wide self.page_size }
+    {
+        let wide = self.wide();
+        let from = page as usize * wide;
+        from..from + wide
+    }
+
+    // Where the slots of a block lie.
+    pub(crate) fn block(self, block: u16) -> Range<usize>
+        ensures from { result.start ≡ block * (self.pages_per_block * wide self.page_size) }
+        ensures to { result.end ≡ result.start + self.pages_per_block * wide self.page_size }
+    {
+        let wide = self.pages_per_block as usize * self.wide();
+        let from = block as usize * wide;
+        from..from + wide
+    }
+
+    // Whether a chip may have this size.
+    fn in_range(self) -> bool
+        ensures { result ≡ in_range self.blocks self.pages_per_block self.page_size }
+    {
+        (1..=64).contains(&self.blocks)
+            && (2..=32).contains(&self.pages_per_block)
+            && (1..=512).contains(&self.page_size)
     }
 
     // Whether a chip may have this size, and takes just so many bytes.
-    pub(crate) fn fit(&self, long: usize) -> bool
-        ensures { result ≡ fits self.now.blocks self.now.pages_per_block self.now.page_size long }
+    #[tactic(auto, unfolding(crate::specs::Slot::fits))]
+    pub(crate) fn fits(self, long: usize) -> bool
+        ensures { result ≡ fits self.blocks self.pages_per_block self.page_size long }
     {
-        let slots = self.blocks as usize * self.pages_per_block as usize;
-        self.in_range() && slots * (slot::HEADER + self.page_size as usize) == long
+        self.in_range() && self.pages() * self.wide() == long
     }
 }

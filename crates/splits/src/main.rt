@@ -3,13 +3,17 @@
 
 mod split;
 
-use chip::{Chip, Flawed, Kind};
-use split::Split;
+use chip::{Chip, Flawed, Kind, Shape, Size};
+use split::{Split, Stored};
 use std::io;
 
-const PAGES: u16 = 8;
+const SIZE: Size = Size {
+    blocks: 2,
+    pages_per_block: 4,
+    page_size: 4,
+};
 
-const BLOCK: u16 = 4;
+const PAGES: u16 = SIZE.blocks * SIZE.pages_per_block;
 
 // One character for each page: free, spoiled or written.
 fn map<C: Chip>(rt: &HostRuntime, chip: &mut C) -> io::Result<()> {
@@ -34,8 +38,8 @@ fn keep<C: Chip>(
     number: u16,
     split: Split,
 ) -> io::Result<u16> {
-    let bytes = split.bytes();
-    for page in from..BLOCK {
+    let bytes = Stored::from(split);
+    for page in from..SIZE.pages_per_block {
         match chip.program(page, number, &bytes) {
             Ok(true) => {
                 println!(rt; "split {number}, {split}: page {page}")?;
@@ -49,14 +53,14 @@ fn keep<C: Chip>(
         }
     }
     println!(rt; "split {number}, {split}: block 0 is full")?;
-    Ok(BLOCK)
+    Ok(SIZE.pages_per_block)
 }
 
 fn read_back<C: Chip>(rt: &HostRuntime, chip: &mut C) -> io::Result<()> {
     for page in 0..PAGES {
         let mut bytes = [0; 4];
         if let Ok((number, _)) = chip.fetch(page, &mut bytes) {
-            let split = Split::of(&bytes);
+            let split = Split::from(bytes);
             println!(rt; "page {page} holds split {number}, {split}")?;
         }
     }
@@ -65,10 +69,12 @@ fn read_back<C: Chip>(rt: &HostRuntime, chip: &mut C) -> io::Result<()> {
 
 fn main(rt: HostRuntime) -> io::Result<()> {
     let mut memory = [0xFF; 160];
-    let mut chip = Flawed::new(&mut memory, 2, 4, 4, &[3, 9]);
-    let shape = chip.shape();
-    let blocks = shape.blocks;
-    let allowance = shape.allowance;
+    let mut chip = Flawed::new(&mut memory, SIZE, &[3, 9]);
+    let Shape {
+        blocks,
+        allowance,
+        ..
+    } = chip.shape();
     println!(rt; "{blocks} blocks, {allowance} writes may fail")?;
     let workout = [
         Split {
@@ -89,9 +95,7 @@ fn main(rt: HostRuntime) -> io::Result<()> {
         },
     ];
     let mut page = 0;
-    let mut number = 0u16;
-    for split in workout {
-        number = number.saturating_add(1);
+    for (number, split) in (1..).zip(workout) {
         page = keep(&rt, &mut chip, page, number, split)?;
     }
     map(&rt, &mut chip)?;

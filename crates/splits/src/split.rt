@@ -12,25 +12,23 @@ pub struct Split {
 // A split as it is stored: both numbers big-endian.
 pub type Stored = [u8; 4];
 
-impl Split {
-    pub fn bytes(self) -> Stored
-        ensures { result ≡ self.tenths / 256 ∷ self.tenths % 256 ∷ self.watts / 256 ∷ self.watts % 256 ∷ [] }
-    {
-        [
-            (self.tenths / 256) as u8,
-            (self.tenths % 256) as u8,
-            (self.watts / 256) as u8,
-            (self.watts % 256) as u8,
-        ]
-    }
+impl From<Split> for Stored {
+    ghost from_gives = { λ split bytes. bytes ≡ split.tenths / 256 ∷ split.tenths % 256 ∷ split.watts / 256 ∷ split.watts % 256 ∷ [] };
 
-    pub fn of(bytes: &Stored) -> Split
-        ensures tenths { result.tenths ≡ slice_index bytes.now 0 * 256 + slice_index bytes.now 1 }
-        ensures watts { result.watts ≡ slice_index bytes.now 2 * 256 + slice_index bytes.now 3 }
-    {
+    fn from(split: Split) -> Stored {
+        let [tenths_high, tenths_low] = split.tenths.to_be_bytes();
+        let [watts_high, watts_low] = split.watts.to_be_bytes();
+        [tenths_high, tenths_low, watts_high, watts_low]
+    }
+}
+
+impl From<Stored> for Split {
+    ghost from_gives = { λ bytes split. (split.tenths ≡ slice_index bytes 0 * 256 + slice_index bytes 1) × (split.watts ≡ slice_index bytes 2 * 256 + slice_index bytes 3) };
+
+    fn from([tenths_high, tenths_low, watts_high, watts_low]: Stored) -> Split {
         Split {
-            tenths: bytes[0] as u16 * 256 + bytes[1] as u16,
-            watts: bytes[2] as u16 * 256 + bytes[3] as u16,
+            tenths: u16::from_be_bytes([tenths_high, tenths_low]),
+            watts: u16::from_be_bytes([watts_high, watts_low]),
         }
     }
 }

@@ -15,42 +15,21 @@ use crate::words::{Kind, Refusal, Shape};
 impl<'a> Flawed<'a> {
     // A chip over this memory, which stays as it is. A gap g lets g - 1 accepted programs pass and fails the next;
     // then the next gap counts.
-    pub fn new(
-        memory: &'a mut [u8],
-        blocks: u16,
-        pages_per_block: u16,
-        page_size: u16,
-        gaps: &[u16],
-    ) -> Flawed<'a>
-        ensures means { flawed_means result ≡ made_flawed blocks pages_per_block page_size gaps.now memory.old }
+    #[tactic(auto, using(crate::proofs::Wearing::gap_law))]
+    pub fn new(memory: &'a mut [u8], size: Size, gaps: &[u16]) -> Flawed<'a>
+        ensures means { flawed_means result ≡ made_flawed size.blocks size.pages_per_block size.page_size gaps.now memory.old }
         ensures gaps { gaps_of result ≡ (if good_gaps gaps.now then gaps.now else []) }
         ensures bytes { result.plain.memory.now ≡ memory.old }
         ensures layout { Layout }
         ensures law { GapLaw }
     {
-        match Gaps::new(gaps) {
-            Some(gaps) => Flawed {
-                plain: Plain::over(
-                    memory,
-                    Size {
-                        blocks,
-                        pages_per_block,
-                        page_size,
-                    },
-                ),
-                gaps,
-            },
-            None => {
-                let none = Size {
-                    blocks: 0,
-                    pages_per_block: 0,
-                    page_size: 0,
-                };
-                Flawed {
-                    plain: Plain::over(memory, none),
-                    gaps: Gaps::none(),
-                }
-            }
+        let (size, gaps) = match Gaps::new(gaps) {
+            Some(gaps) => (size, gaps),
+            None => (Size::default(), Gaps::none()),
+        };
+        Flawed {
+            plain: Plain::new(memory, size),
+            gaps,
         }
     }
 }
@@ -84,14 +63,14 @@ impl<'a> Chip for Flawed<'a> {
         ensures counted { Counted (gaps_of self.old) result (gaps_of self.new) }
         ensures bytes { self.new.plain.memory.now ≡ programmed_bytes self.old.plain.size.page_size page label bytes.now result self.old.plain.memory.now }
     {
-        if self.gaps.strike() {
+        let fails = self.gaps.strike();
+        if fails {
             self.plain.spoil(page, bytes.len())?;
-            self.gaps.wear();
-            return Ok(false);
+        } else {
+            self.plain.put(page, label, bytes)?;
         }
-        self.plain.put(page, label, bytes)?;
         self.gaps.wear();
-        Ok(true)
+        Ok(!fails)
     }
 
     fn fetch(&mut self, page: u16, buffer: &mut [u8]) -> Result<(u16, usize), Refusal>
@@ -104,6 +83,7 @@ impl<'a> Chip for Flawed<'a> {
         self.plain.read(page, buffer)
     }
 
+    #[tactic(auto, using(crate::proofs::Touching::wiped_means))]
     fn erase(&mut self, block: u16) -> Result<(), Refusal>
         ensures value { result ≡ erase_told (flawed_means self.old) block }
         ensures after { flawed_means self.new ≡ erased (flawed_means self.old) block }

@@ -1,68 +1,55 @@
 ghost use Rattle.std.specs.Prelude.{◌≡◌, length};
 ghost use Rattle.chip.specs.Calls.{shape_of, kind_told, Programmed, fetched, fetched_into, erase_told, erased};
-ghost use Rattle.chip.specs.Slot.{wide, slot_of, failed_slot, programmed_bytes, block_erased, made, Layout};
-ghost use Rattle.chip.specs.Makes.{means_of, plain_means, NeverFails, Placed, Opened, Bounded, Put, Wiped};
+ghost use Rattle.chip.specs.Slot.{slot_of, failed_slot, programmed_bytes, block_erased, made, Layout};
+ghost use Rattle.chip.specs.Makes.{means_of, plain_means, size_for, NeverFails, Held, Opened, Bounded, Put, Wiped};
 ghost use Rattle.chip.specs.Shaping.{plain_shaped};
 
 use crate::chip::Chip;
 use crate::plain::Plain;
 use crate::size::Size;
-use crate::slot;
+use crate::slot::{self, Slot};
 use crate::words::{Kind, Refusal, Shape};
+use std::ops::Range;
 
 impl<'a> Plain<'a> {
-    // A chip over this memory, which stays as it is: its pages are what the bytes mean.
-    pub fn new(memory: &'a mut [u8], blocks: u16, pages_per_block: u16, page_size: u16) -> Plain<'a>
-        ensures means { plain_means result ≡ made blocks pages_per_block page_size 0 memory.old }
+    // A chip over this memory, which stays as it is: its pages are what the bytes mean. It has none if the size does
+    // not fit the memory.
+    #[tactic(auto, using(crate::proofs::Slots::layout))]
+    pub fn new(memory: &'a mut [u8], size: Size) -> Plain<'a>
+        ensures means { plain_means result ≡ made size.blocks size.pages_per_block size.page_size 0 memory.old }
+        ensures size { result.size ≡ size_for size (length memory.old) }
         ensures bytes { result.memory.now ≡ memory.old }
         ensures layout { Layout }
     {
-        Plain::over(
-            memory,
-            Size {
-                blocks,
-                pages_per_block,
-                page_size,
-            },
-        )
-    }
-
-    pub(crate) fn over(memory: &'a mut [u8], size: Size) -> Plain<'a>
-        ensures size { result.size ≡ size }
-        ensures bytes { result.memory.now ≡ memory.old }
-    {
+        let size = if size.fits(memory.len()) {
+            size
+        } else {
+            Size::default()
+        };
         Plain { memory, size }
     }
 
-    // How many bytes a slot takes.
-    fn wide(&self) -> usize
-        ensures { result ≡ wide self.now.size.page_size }
+    // The slot of a page.
+    #[tactic(auto, using(crate::proofs::Placing::least_pages))]
+    fn slot(&self, page: u16) -> Result<Slot<'_>, Refusal>
+        ensures { Held self.now page result }
     {
-        slot::HEADER + self.size.page_size as usize
-    }
-
-    // Where the slot of a page begins.
-    fn place(&self, page: u16) -> Result<usize, Refusal>
-        ensures { Placed self.now page result }
-    {
-        let pages = self.size.blocks as usize * self.size.pages_per_block as usize;
-        if !self.size.fit(self.memory.len()) || page as usize >= pages {
+        if page as usize >= self.size.pages() {
             return Err(Refusal::NotThere);
         }
-        Ok(page as usize * self.wide())
+        let at = self.size.slot(page);
+        Ok(Slot {
+            bytes: &self.memory[at],
+        })
     }
 
     // The shape, with so many failures left.
+    #[tactic(auto, using(crate::proofs::Placing::means_none))]
     pub(crate) fn told(&self, allowance: u16) -> Shape
         ensures { result ≡ shape_of (means_of self.now.size allowance self.now.memory.now) }
     {
-        if !self.size.fit(self.memory.len()) {
-            return Shape {
-                blocks: 0,
-                pages_per_block: 0,
-                page_size: 0,
-                allowance: 0,
-            };
+        if self.size.blocks == 0 {
+            return Shape::default();
         }
         Shape {
             blocks: self.size.blocks,
@@ -72,59 +59,55 @@ impl<'a> Plain<'a> {
         }
     }
 
+    // What both makes of chip in memory answer. The calls of the trait take `&mut self`; these take `&self`, and so
+    // need no clauses on what stays.
+    #[tactic(auto, using(crate::proofs::Placing::told_kind))]
     pub(crate) fn look(&self, page: u16) -> Result<Kind, Refusal>
         ensures { result ≡ kind_told (plain_means self.now) page }
     {
-        let at = self.place(page)?;
-        let end = at + self.wide();
-        Ok(slot::kind(&self.memory[at..end], self.size.page_size as usize))
+        Ok(self.slot(page)?.kind())
     }
 
+    #[tactic(auto, using(crate::proofs::Placing::told_fetch, crate::proofs::Placing::told_into))]
     pub(crate) fn read(&self, page: u16, buffer: &mut [u8]) -> Result<(u16, usize), Refusal>
         ensures value { result ≡ fetched (plain_means self.now) page (length buffer.old) }
         ensures buffer { buffer.new ≡ fetched_into (plain_means self.now) page result buffer.old }
     {
-        let at = self.place(page)?;
-        let end = at + self.wide();
-        slot::fetch(&self.memory[at..end], self.size.page_size as usize, buffer)
+        self.slot(page)?.fetch(buffer)
     }
 
-    // Where the slot of a page begins that may be programmed with so many bytes.
-    fn open(&self, page: u16, long: usize) -> Result<usize, Refusal>
+    // Where the slot lies of a page that may be programmed with so many bytes.
+    #[tactic(auto, using(crate::proofs::Placing::asks_not_free, crate::proofs::Placing::asks_too_long))]
+    fn open(&self, page: u16, long: usize) -> Result<Range<usize>, Refusal>
         ensures { Opened self.now page long result }
     {
-        let at = self.place(page)?;
-        let end = at + self.wide();
-        if !slot::is_free(&self.memory[at..end]) {
+        let slot = self.slot(page)?;
+        if !slot.is_free() {
             return Err(Refusal::WrongKind);
         }
         if long > self.size.page_size as usize {
             return Err(Refusal::TooLong);
         }
-        Ok(at)
+        Ok(self.size.slot(page))
     }
 
-    // Where the slots of a block begin and end.
-    fn block(&self, block: u16) -> Result<(usize, usize), Refusal>
+    // Where the slots of a block lie.
+    fn block(&self, block: u16) -> Result<Range<usize>, Refusal>
         ensures { Bounded self.now block result }
     {
-        if !self.size.fit(self.memory.len()) || block >= self.size.blocks {
+        if block >= self.size.blocks {
             return Err(Refusal::NotThere);
         }
-        let pages = self.size.pages_per_block as usize;
-        let wide = self.wide();
-        let from = block as usize * pages * wide;
-        Ok((from, from + pages * wide))
+        Ok(self.size.block(block))
     }
 
-    // A program that is good, whatever make of chip this memory is part of.
+    // A program that is good, whatever make of chip this memory is part of. It and `spoil` differ in one call, which as
+    // a closure would cost more lines of contract than it saves.
     pub(crate) fn put(&mut self, page: u16, label: u16, bytes: &[u8]) -> Result<(), Refusal>
         ensures { Put self.old page (length bytes.now) (slot_of self.old.size.page_size label bytes.now) result self.new }
     {
         let at = self.open(page, bytes.len())?;
-        let end = at + self.wide();
-        let size = self.size.page_size as usize;
-        slot::write(&mut self.memory[at..end], size, label, bytes);
+        slot::write(&mut self.memory[at], label, bytes);
         Ok(())
     }
 
@@ -133,16 +116,15 @@ impl<'a> Plain<'a> {
         ensures { Put self.old page long (failed_slot self.old.size.page_size) result self.new }
     {
         let at = self.open(page, long)?;
-        let end = at + self.wide();
-        slot::fail(&mut self.memory[at..end]);
+        slot::fail(&mut self.memory[at]);
         Ok(())
     }
 
     pub(crate) fn wipe(&mut self, block: u16) -> Result<(), Refusal>
         ensures { Wiped self.old block result self.new }
     {
-        let (from, to) = self.block(block)?;
-        slot::erase(&mut self.memory[from..to]);
+        let at = self.block(block)?;
+        slot::erase(&mut self.memory[at]);
         Ok(())
     }
 }
@@ -168,6 +150,7 @@ impl<'a> Chip for Plain<'a> {
         self.look(page)
     }
 
+    #[tactic(auto, using(crate::proofs::Flawing::programmed_good))]
     fn program(&mut self, page: u16, label: u16, bytes: &[u8]) -> Result<bool, Refusal>
         ensures effect { Programmed (plain_means self.old) page label bytes.now result (plain_means self.new) }
         ensures good { NeverFails result }
@@ -186,6 +169,7 @@ impl<'a> Chip for Plain<'a> {
         self.read(page, buffer)
     }
 
+    #[tactic(auto, using(crate::proofs::Touching::wiped_means))]
     fn erase(&mut self, block: u16) -> Result<(), Refusal>
         ensures value { result ≡ erase_told (plain_means self.old) block }
         ensures after { plain_means self.new ≡ erased (plain_means self.old) block }

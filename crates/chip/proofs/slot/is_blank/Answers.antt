@@ -1,15 +1,8 @@
-use Rattle.std.proofs.Common.{get_or, ap, ◌∙◌, arith}
-use Rattle.std.proofs.lemmas.Nat.{and_le_l}
-use Rattle.std.proofs.lemmas.List.{take_all}
-use Rattle.chip.specs.Slot.{all_ones}
-use Rattle.chip.proofs.Reading.{all_ones_more}
+use Rattle.std.proofs.Common.{◌≡◌, fold, bit_and, ap, ◌∙◌, eqb, arith, rules}
+use Rattle.chip.proofs.Reading.{ones_in_common}
 use Rattle.chip.proofs.slot.is_blank.Goals as goal
 
-pub loop-b-preserved : goal.loop-b-preserved
-loop-b-preserved c = (
-  omega (arith, and_le_l c.loop-b.common (get_or c.args.slot.now c.loop-b.b-index 0), c.loop-b.invariant.0),
-  all_ones_more c.args.slot.now c.loop-b.b-index c.loop-b.common (omega arith) c.loop-b.invariant.0 (omega arith) c.loop-b.invariant.1,
-)
-
 pub returns : goal.returns
-returns c = c.loop-b.invariant.1 ∙ ap all_ones (take_all c.loop-b.b-index c.args.slot.now (omega arith))
+returns c =
+    let e : c.fold.result ≡ fold (λ a b. bit_and a b) 255 c.args.bytes.now = search rules in
+    ap (λ n. eqb n 255) e ∙ ones_in_common c.args.bytes.now (λ i. let h = c.type_inv.bytes i in omega arith)
