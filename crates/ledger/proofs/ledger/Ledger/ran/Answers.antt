@@ -18,15 +18,12 @@ ran-requires c =
     let won = mul-le-mul small few in
     (omega (arith, j.writes_few, b.yields_within, b.small_blocks), omega (arith, j.runs_few))
 
-pub put-requires : goal.put-requires
-put-requires c =
+pub put-requires-clause-fair : goal.put-requires-clause-fair
+put-requires-clause-fair c =
     let l = c.args.self.now in
     let found = c.in-Ok.ensures.found in
     let more : c.in-Ok.found.runs < due c.in-Ok.found = omega arith in
-    record {
-      within = found.there;
-      fair = put_as l found c.ran.ensures (ran_put l found more);
-    }
+    put_as l found c.ran.ensures (ran_put l found more)
 
 pub returns-then-found-due-clause-tokens : goal.returns-then-found-due-clause-tokens
 returns-then-found-due-clause-tokens c = run_adds {c = books_of c.put.new.self} (fair_of c.args.self.now) c.args.seat (search rules)
