@@ -1,9 +1,10 @@
 -- Books stay fair when one fair seat takes the place of another. Assumes nothing.
+use Rattle.std.proofs.Common.{rules}
 use Rattle.std.proofs.Common.{◌≡◌, ℕ, ◌+◌, ◌-◌, ◌*◌, ◌<◌, ◌≤◌, true, List, length, get_or, set, sym, refl, ap, ◌∙◌, subst, arith, length-set, get_or-set_other, get_or-set_same}
 use native.Mathlib.Decide.{ℕ_discrete}
 use Rattle.plan.specs.declared.numbers.Plan.{Plan}
 use Rattle.plan.specs.Yield.{yield_rule}
-use Rattle.std.proofs.lemmas.Bool.{ltb-true, lt-ltb, cond-true}
+use Rattle.std.proofs.lemmas.Bool.{cond-true}
 use Rattle.ledger.specs.declared.frame.Frame.{Frame}
 use Rattle.ledger.specs.declared.ledger.Ledger.{Ledger}
 use Rattle.ledger.specs.declared.seat.Seat.{Seat}
@@ -18,9 +19,7 @@ use Rattle.ledger.proofs.Sums.{lent_set, extra_set}
 
 -- with fewer tokens the yield rule stands all the more
 pub rule_under : (N π M H G α : ℕ) → G ≤ H → yield_rule N π M H α ≡ true → yield_rule N π M G α ≡ true
-rule_under N π M H G α less stands =
-    let before = ltb-true (M + H + α + α * N) (N * π + N + 1) stands in
-    lt-ltb (M + G + α + α * N) (N * π + N + 1) (omega arith)
+rule_under N π M H G α less stands = search rules
 
 module _ {xs : List Seat} {pool spare : ℕ} {f : Frame} (b : Fair xs pool spare f) (i : ℕ) (s : Seat) (within : i < 8) (fair : SeatFair f s) where
   there : i < length xs
@@ -99,6 +98,4 @@ module _ (l : Ledger) {i : ℕ} {s : Seat} (found : Found (books_of l) i s) wher
 
 pub put_as_with :
     (l : Ledger) (i : ℕ) {p q : ℕ} {t u : Seat} → t ≡ u → p ≡ q → Fair (set l.seats i u) q l.spare l.frame → Fair (set l.seats i t) p l.spare l.frame
-put_as_with l i {p} {q} {t} {u} is much fair =
-    let seats : Fair (set l.seats i t) q l.spare l.frame = subst (λ (x : Seat). Fair (set l.seats i x) q l.spare l.frame) (sym is) fair in
-    subst (λ (x : ℕ). Fair (set l.seats i t) x l.spare l.frame) (sym much) seats
+put_as_with l i {p} {q} {t} {u} is much fair = search rules

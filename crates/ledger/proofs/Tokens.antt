@@ -1,8 +1,9 @@
 -- What each move makes of the number of tokens. Assumes nothing.
-use Rattle.std.proofs.Common.{◌≡◌, ℕ, suc, ◌+◌, ◌-◌, ◌*◌, ◌/◌, ◌<◌, ◌≤◌, Bool, true, false, cond, not, ◌&&◌, eqb, ltb, List, [], ◌∷◌, length, get_or, None, refl, ap, ◌∙◌, inl, inr, mul-le-mul_right, mul_comm, arith}
+use Rattle.std.proofs.lemmas.Grind.{common_steps}
+use Rattle.std.proofs.Common.{◌≡◌, ℕ, suc, ◌+◌, ◌-◌, ◌*◌, ◌/◌, ◌<◌, ◌≤◌, Bool, true, false, cond, not, ◌&&◌, eqb, ltb, List, [], ◌∷◌, length, get_or, None, refl, ap, ◌∙◌, inl, inr, mul_comm, arith}
 use Rattle.plan.specs.declared.numbers.Plan.{Plan}
 use Rattle.std.proofs.lemmas.List.{get_or_past, set_past}
-use Rattle.std.proofs.lemmas.Bool.{cases_lt, cond-true, eqb-true, and_from, lt-ltb}
+use Rattle.std.proofs.lemmas.Bool.{cases_lt, eqb-true, and_from, lt-ltb}
 use Rattle.ledger.specs.declared.frame.Frame.{Frame}
 use Rattle.ledger.specs.declared.seat.Seat.{Seat}
 use Rattle.ledger.specs.declared.seat.Status.{Status}
@@ -37,7 +38,7 @@ use Rattle.ledger.proofs.Answered.{return_granted, used_parts}
 use Rattle.ledger.proofs.Bounds.{seat_ways}
 use Rattle.ledger.proofs.Clockwork.{runs_full}
 use Rattle.ledger.proofs.Ends.{back}
-use Rattle.ledger.proofs.Jobs.{out_paid, account_within}
+use Rattle.ledger.proofs.Jobs.{out_paid}
 use Rattle.ledger.proofs.Sums.{held_set, held_has}
 
 module _ (b : Books) (i : ℕ) where
@@ -82,10 +83,6 @@ module _ (b : Books) (i : ℕ) where
       let there = used.0 in
       let sum = held_set b.seats i (saved (seat_of b i)) (omega (arith, fair.eight)) in
       omega arith
-
--- a failed try takes one token, of the spare account
-pub tokens_paid : (b : Books) → 0 < b.spare → tokens (paid b) + 1 ≡ tokens b
-tokens_paid b some = omega arith
 
 -- ---- the end of a meta-period
 
@@ -147,19 +144,7 @@ module _ (F H K : List Seat → ℕ) (p q r : Seat → ℕ) (f-step : (x : Seat)
 
 -- a seat that still has a run to make holds at most its share and the yield of the runs before the last
 pub seat_cap : {f : Frame} {s : Seat} → SeatFair f s → (in_use s ≡ true → s.runs < s.plan.runs) → holds s ≤ had f s + adds f.alpha s
-seat_cap {f} {s} fair below =
-    elim (seat_ways fair) [
-      | inl empty ↦ (let none = ap holds empty.1 in omega arith)
-      | inr job ↦ (
-          let lent-here = cond-true (in_use s) (s.plan.writes + collector_share f) 0 job.0 in
-          let more-here = cond-true (in_use s) ((s.plan.runs - 1) * f.alpha) 0 job.0 in
-          let fewer = below job.0 in
-          let most = account_within job.1 in
-          let turn = mul_comm f.alpha s.runs in
-          let won : s.runs * f.alpha ≤ (s.plan.runs - 1) * f.alpha = mul-le-mul_right f.alpha (omega arith) in
-          omega (arith, job.1.copies_paid)
-          )
-    ]
+seat_cap {f} {s} fair below = grind (arith, common_steps)
 
 -- whenever a block is chosen, the tokens are at most what the yield rule reckons with
 pub tokens_capped : (b : Books) → FairBooks b → Below b → tokens b ≤ highest b

@@ -1,5 +1,6 @@
 -- A whole tick of a seat is `passed`, and a walk over the seats passes each. Assumes nothing.
-use Rattle.std.proofs.Common.{◌≡◌, ℕ, zero, suc, ◌+◌, ◌-◌, ◌*◌, ◌<◌, ◌≤◌, true, false, List, [], ◌∷◌, map, length, get_or, set, sym, refl, ap, ◌∙◌, le_of_suc-le-suc, not-suc-le-zero, mul-zero, mul-one, mul-add, add-one, arith, get_or-set_same}
+use Rattle.std.proofs.Common.{rules}
+use Rattle.std.proofs.Common.{◌≡◌, ℕ, zero, suc, ◌+◌, ◌-◌, ◌*◌, ◌<◌, ◌≤◌, true, false, List, [], ◌∷◌, map, length, get_or, set, sym, refl, ap, ◌∙◌, le_of_suc-le-suc, not-suc-le-zero, mul-zero, add-one, arith, get_or-set_same}
 use Rattle.std.proofs.lemmas.List.{set-set}
 use Rattle.std.proofs.lemmas.Bool.{cond-true, cond-false}
 use Rattle.ledger.specs.declared.seat.Seat.{Seat}
@@ -15,10 +16,7 @@ pub no_runs : (α : ℕ) (s : Seat) → s ≡ ran_times α 0 s
 no_runs α s = with_account s s.account (s.account + α * 0) s.runs (s.runs + 0) (omega (arith, mul-zero α)) (omega arith)
 
 pub one_more_run : (α n : ℕ) (s : Seat) → ran α (ran_times α n s) ≡ ran_times α (n + 1) s
-one_more_run α n s =
-    let more = mul-add α n 1 in
-    let one = mul-one α in
-    with_account s (s.account + α * n + α) (s.account + α * (n + 1)) (s.runs + n + 1) (s.runs + (n + 1)) (omega arith) (omega arith)
+one_more_run α n s = search rules
 
 -- its clock, the runs that are due then, and the end of its meta-period: a tick
 pub passed_used : (α : ℕ) (s : Seat) → in_use s ≡ true → turned (ran_times α (due (one_later s) - s.runs) (one_later s)) ≡ passed α s
