@@ -1,6 +1,5 @@
 -- What it says of the books that no question was answered "no". Assumes nothing.
-use Rattle.std.proofs.Common.{rules}
-use Rattle.std.proofs.Common.{◌≡◌, ℕ, ◌+◌, ◌<◌, ◌≤◌, Bool, true, false, ltb, IfOk, Some, None, Ok, Err, Option, Result, sym, refl, subst}
+use Rattle.std.proofs.Common.{rules, ◌≡◌, ℕ, ◌+◌, ◌<◌, ◌≤◌, Bool, true, false, ltb, IfOk, Some, None, Ok, Err, Option, Result, sym, refl, subst}
 use Rattle.plan.specs.declared.numbers.Plan.{Plan}
 use Rattle.plan.specs.Plan.{planned}
 use Rattle.std.proofs.lemmas.Bool.{and_parts, ltb-true}

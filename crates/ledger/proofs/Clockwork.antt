@@ -1,6 +1,5 @@
 -- The arithmetic of a seat's clock: how many runs are due after e of σ ticks. Assumes nothing.
-use Rattle.std.proofs.Common.{rules}
-use Rattle.std.proofs.Common.{◌≡◌, ℕ, ◌*◌, ◌/◌, ◌<◌, ◌≤◌}
+use Rattle.std.proofs.Common.{rules, ◌≡◌, ℕ, ◌*◌, ◌/◌, ◌<◌, ◌≤◌}
 use native.Mathlib.Nat.{mul-div_cancel_left}
 
 -- before the meta-period ends, one run at least is left

@@ -1,14 +1,11 @@
--- The end of a seat's tick: what it gives the pool, and that a seat not in use stays. Assumes nothing.
-use Rattle.std.proofs.Common.{rules}
-use Rattle.std.proofs.Common.{◌≡◌, ℕ, ◌+◌, ◌<◌, ◌≤◌, Bool, true, false, cond, not, ◌&&◌, eqb, ltb, List, get_or, set, refl, ap, inl, inr, arith}
-use Rattle.std.proofs.lemmas.List.{get_or_past}
-use Rattle.std.proofs.lemmas.Bool.{cases_lt, lt-ltb, and_from, both_ways}
+-- The end of a seat's tick: what it gives the pool. Assumes nothing.
+use Rattle.std.proofs.Common.{rules, ◌≡◌, ℕ, ◌+◌, ◌≤◌, Bool, true, false, cond, not, ◌&&◌, eqb, List, set, refl, ap, arith}
 use Rattle.ledger.specs.declared.frame.Frame.{Frame}
 use Rattle.ledger.specs.declared.ledger.Ledger.{Ledger}
 use Rattle.ledger.specs.declared.seat.Seat.{Seat}
 use Rattle.ledger.specs.declared.seat.Status.{Status}
 use Rattle.ledger.specs.declared.seat.Status.TheVariants.{Empty, Serving, OnNotice}
-use Rattle.ledger.specs.Seats.{nobody, in_use, empty_status, serving_status, at_end, turned}
+use Rattle.ledger.specs.Seats.{empty_status, serving_status, at_end, turned}
 use Rattle.ledger.specs.Books.{collector_share, extra, leaves}
 use Rattle.ledger.specs.Fair.{Fair, Found}
 use Rattle.ledger.specs.Of.{books_of}
@@ -61,7 +58,3 @@ module _ (l : Ledger) {i : ℕ} {s : Seat} (found : Found (books_of l) i s) wher
       let here = ap (had f) found.is in
       let plus = ap (adds f.alpha) found.is in
       fair_put_down (fair_of l) i (turned s) found.there (turned_fair (job_seat found.used found.fair)) (l.pool + back f s) (omega arith) (omega arith)
-
--- ---- a seat that is not in use
-
-module _ {xs : List Seat} {pool spare : ℕ} {f : Frame} (b : Fair xs pool spare f) where

@@ -1,6 +1,5 @@
 -- The books are fair when they are opened. Assumes nothing.
-use Rattle.std.proofs.Common.{rules}
-use Rattle.std.proofs.Common.{◌≡◌, true, replicate, sym, subst}
+use Rattle.std.proofs.Common.{rules, ◌≡◌, true, replicate, sym, subst}
 use Rattle.ledger.specs.declared.frame.Frame.{Frame}
 use Rattle.ledger.specs.declared.seat.Seat.{Seat}
 use Rattle.ledger.specs.Seats.{nobody}

@@ -9,28 +9,7 @@ use Rattle.ledger.specs.declared.seat.Seat.{Seat}
 use Rattle.ledger.specs.declared.seat.Status.{Status}
 use Rattle.ledger.specs.declared.seat.Status.TheVariants.{Empty, Serving, OnNotice}
 use Rattle.ledger.specs.Seats.{nobody, is_empty, in_use, empty_status, serving_status, seated, saved, due, ran, at_end, turned}
-use Rattle.ledger.specs.Books.{
-  Books,
-  seat_of,
-  held,
-  tokens,
-  extra,
-  highest,
-  lent,
-  collector_share,
-  used_seat,
-  asks_return,
-  with_seat,
-  admitted,
-  noticed,
-  taken,
-  returned,
-  spent,
-  paid,
-  entered,
-  ran_once,
-  ended,
-}
+use Rattle.ledger.specs.Books.{Books, seat_of, held, tokens, extra, highest, lent, collector_share, used_seat, asks_return, with_seat, admitted, noticed, taken, returned, spent, entered, ran_once, ended}
 use Rattle.ledger.specs.Fair.{FairBooks, JobFair, SeatFair}
 use Rattle.ledger.specs.Settled.{Below}
 use Rattle.ledger.specs.Shares.{holds, had, adds}
