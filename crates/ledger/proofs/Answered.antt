@@ -7,8 +7,8 @@ use Rattle.ledger.specs.declared.refusal.Refusal.{Refusal}
 use Rattle.ledger.specs.declared.refusal.Refusal.TheVariants.{SeatNotInUse}
 use Rattle.ledger.specs.declared.seat.Seat.{Seat}
 use Rattle.ledger.specs.Fair.{FairBooks, Found}
-use Rattle.ledger.specs.Seats.{is_empty, is_serving, in_use}
-use Rattle.ledger.specs.Books.{Books, seat_of, collector_share, ask, answer, used_seat, rule_with, asks_admit, asks_notice, asks_return}
+use Rattle.ledger.specs.Seats.{is_empty, in_use}
+use Rattle.ledger.specs.Books.{Books, seat_of, collector_share, ask, answer, used_seat, rule_with, asks_admit}
 
 -- a question that was not answered "no", and the questions after it
 pub asked : (t : Bool) (e : Refusal) (rest : Option Refusal) → ask t e rest ≡ None → (t ≡ true) × (rest ≡ None)
@@ -18,12 +18,6 @@ asked false e rest none = absurd (cc)
 module _ (b : Books) (i : ℕ) where
   pub used_parts : used_seat b i ≡ true → (i < 8) × (in_use (seat_of b i) ≡ true)
   used_parts used = let p = and_parts (ltb i 8) (in_use (seat_of b i)) used in (ltb-true i 8 p.0, p.1)
-
-  pub notice_granted : asks_notice b i ≡ None → (used_seat b i ≡ true) × (is_serving (seat_of b i) ≡ true) × ((seat_of b i).out ≡ 0)
-  notice_granted none = search rules
-
-  pub return_granted : asks_return b i ≡ None → (used_seat b i ≡ true) × (0 < (seat_of b i).out)
-  return_granted none = search rules
 
   pub admit_granted :
       (p w : ℕ) → asks_admit b i p w ≡ None →

@@ -9,7 +9,3 @@ runs_left e k σ some before = search rules
 -- at its end, none
 pub runs_full : (k σ : ℕ) → 1 ≤ σ → σ * k / σ ≡ k
 runs_full k σ some = mul-div_cancel_left k some
-
--- and never more than the plan has
-pub runs_within : (e k σ : ℕ) → 1 ≤ σ → e ≤ σ → e * k / σ ≤ k
-runs_within e k σ some clock = search rules

@@ -1,6 +1,6 @@
 -- Books stay fair when one fair seat takes the place of another. Assumes nothing.
-use Rattle.std.proofs.Common.{rules, ◌≡◌, ℕ, ◌+◌, ◌-◌, ◌*◌, ◌<◌, ◌≤◌, true, List, length, get_or, set, sym, refl, ap, ◌∙◌, subst, arith, length-set, get_or-set_other, get_or-set_same}
-use native.Mathlib.Decide.{ℕ_discrete}
+use Rattle.std.proofs.lemmas.Grind.{common_steps}
+use Rattle.std.proofs.Common.{rules, ◌≡◌, ℕ, ◌+◌, ◌-◌, ◌*◌, ◌<◌, ◌≤◌, true, List, length, get_or, set, sym, refl, ap, arith}
 use Rattle.plan.specs.declared.numbers.Plan.{Plan}
 use Rattle.plan.specs.Yield.{yield_rule}
 use Rattle.std.proofs.lemmas.Bool.{cond-true}
@@ -30,22 +30,7 @@ module _ {xs : List Seat} {pool spare : ℕ} {f : Frame} (b : Fair xs pool spare
       after + had f s ≡ pool + had f (get_or xs i nobody) →
       yield_rule f.blocks f.pages_per_block f.numbers (f.pool + f.allowance + extra f.alpha (set xs i s)) f.alpha ≡ true →
       Fair (set xs i s) after spare f
-  fair_put_with after moved rule =
-      let sum = lent_set f xs i s there in
-      record {
-        eight = simp length-set b.eight;
-        each = λ k h. elim (ℕ_discrete k i) [
-          | yes same ↦ (let here = get_or-set_same xs i s nobody there in subst (SeatFair f) (sym (ap (λ n. get_or (set xs i s) n nobody) same ∙ here)) fair)
-          | no apart ↦ (let other = get_or-set_other xs i k s nobody apart in subst (SeatFair f) (sym other) (b.each k h))
-        ];
-        lent_out = omega (arith, b.lent_out);
-        spare_within = b.spare_within;
-        yields = b.yields;
-        yields_within = b.yields_within;
-        small_blocks = b.small_blocks;
-        few_blocks = b.few_blocks;
-        rule = rule;
-      }
+  fair_put_with after moved rule = grind (arith, common_steps, lent_set)
 
   pub fair_put_down : (after : ℕ) → after + had f s ≡ pool + had f (get_or xs i nobody) → adds f.alpha s ≤ adds f.alpha (get_or xs i nobody) → Fair (set xs i s) after spare f
   fair_put_down after moved less =
@@ -93,7 +78,7 @@ module _ (l : Ledger) {i : ℕ} {s : Seat} (found : Found (books_of l) i s) wher
 
   -- the same for what a function made of the seat
   pub put_as : {t u : Seat} → t ≡ u → Fair (set l.seats i u) l.pool l.spare l.frame → Fair (set l.seats i t) l.pool l.spare l.frame
-  put_as {t} {u} is fair = subst (λ (x : Seat). Fair (set l.seats i x) l.pool l.spare l.frame) (sym is) fair
+  put_as {t} {u} is fair = search rules
 
 pub put_as_with :
     (l : Ledger) (i : ℕ) {p q : ℕ} {t u : Seat} → t ≡ u → p ≡ q → Fair (set l.seats i u) q l.spare l.frame → Fair (set l.seats i t) p l.spare l.frame
