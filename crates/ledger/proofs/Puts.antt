@@ -76,10 +76,10 @@ module _ (l : Ledger) {i : ℕ} {s : Seat} (found : Found (books_of l) i s) wher
   pub ran_put : s.runs < due s → Fair (set l.seats i (ran l.frame.alpha s)) l.pool l.spare l.frame
   ran_put more = fair_swap (ran l.frame.alpha s) refl found.used (ran_fair found.fair more)
 
-  -- the same for what a function made of the seat
-  pub put_as : {t u : Seat} → t ≡ u → Fair (set l.seats i u) l.pool l.spare l.frame → Fair (set l.seats i t) l.pool l.spare l.frame
-  put_as {t} {u} is fair = search rules
+  -- the same for what a function made of the seat, at an index that is the seat's number
+  pub put_as : {k : ℕ} {t u : Seat} → k ≡ i → t ≡ u → Fair (set l.seats i u) l.pool l.spare l.frame → Fair (set l.seats k t) l.pool l.spare l.frame
+  put_as at is fair = search rules
 
 pub put_as_with :
-    (l : Ledger) (i : ℕ) {p q : ℕ} {t u : Seat} → t ≡ u → p ≡ q → Fair (set l.seats i u) q l.spare l.frame → Fair (set l.seats i t) p l.spare l.frame
-put_as_with l i {p} {q} {t} {u} is much fair = search rules
+    (l : Ledger) (i : ℕ) {k p q : ℕ} {t u : Seat} → k ≡ i → t ≡ u → p ≡ q → Fair (set l.seats i u) q l.spare l.frame → Fair (set l.seats k t) p l.spare l.frame
+put_as_with l i at is much fair = search rules

@@ -36,6 +36,7 @@ impl Ledger {
         })
     }
 
+    // The books for a frame that stands.
     fn fresh(frame: Frame) -> Ledger
         requires { stands frame ≡ true }
         ensures { books_of result ≡ opened frame }
