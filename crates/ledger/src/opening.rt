@@ -42,7 +42,7 @@ impl Ledger {
         ensures { books_of result ≡ opened frame }
     {
         Ledger {
-            seats: [Seat::vacant(); SEATS],
+            seats: [Seat::VACANT; SEATS],
             pool: frame.pool,
             spare: frame.allowance,
             frame,
