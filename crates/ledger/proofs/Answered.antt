@@ -1,14 +1,11 @@
 -- What it says of the books that no question was answered "no". Assumes nothing.
-use Rattle.std.proofs.Common.{rules, ◌≡◌, ℕ, ◌+◌, ◌<◌, ◌≤◌, Bool, true, false, ltb, IfOk, Some, None, Ok, Err, Option, Result, sym, refl, subst}
+use Rattle.std.proofs.Common.{rules, ◌≡◌, ℕ, ◌+◌, ◌<◌, ◌≤◌, Bool, true, false, ltb, Some, None, Option, refl}
 use Rattle.plan.specs.declared.numbers.Plan.{Plan}
 use Rattle.plan.specs.Plan.{planned}
 use Rattle.std.proofs.lemmas.Bool.{and_parts, ltb-true}
 use Rattle.ledger.specs.declared.refusal.Refusal.{Refusal}
-use Rattle.ledger.specs.declared.refusal.Refusal.TheVariants.{SeatNotInUse}
-use Rattle.ledger.specs.declared.seat.Seat.{Seat}
-use Rattle.ledger.specs.Fair.{FairBooks, Found}
 use Rattle.ledger.specs.Seats.{is_empty, in_use}
-use Rattle.ledger.specs.Books.{Books, seat_of, collector_share, ask, answer, used_seat, rule_with, asks_admit}
+use Rattle.ledger.specs.Books.{Books, seat_of, collector_share, ask, used_seat, rule_with, asks_admit}
 
 -- a question that was not answered "no", and the questions after it
 pub asked : (t : Bool) (e : Refusal) (rest : Option Refusal) → ask t e rest ≡ None → (t ≡ true) × (rest ≡ None)
@@ -23,15 +20,3 @@ module _ (b : Books) (i : ℕ) where
       (p w : ℕ) → asks_admit b i p w ≡ None →
       (i < 8) × (is_empty (seat_of b i) ≡ true) × ((plan : Plan) × (planned b.frame.alpha p w ≡ Some plan) × (plan.writes + collector_share b.frame ≤ b.pool) × (rule_with b plan ≡ true))
   admit_granted p w none = search rules
-
-  -- a seat that was found in use is the books' own, and fair
-  pub found_in : FairBooks b → (r : Result Seat Refusal) → r ≡ answer (ask (used_seat b i) SeatNotInUse None) (seat_of b i) → IfOk r (λ s. Found b i s)
-  found_in fair r told = by (used_seat b i) refl r told
-    where
-      by : (t : Bool) → used_seat b i ≡ t → (r : Result Seat Refusal) → r ≡ answer (ask t SeatNotInUse None) (seat_of b i) → IfOk r (λ s. Found b i s)
-      by true used (Ok s) told =
-          let is : s ≡ seat_of b i = cc in
-          let parts = used_parts used in
-          subst (Found b i) (sym is) (record { there = parts.0; is = refl; used = parts.1; fair = (fair.each i parts.0).used parts.1 })
-      by false used (Ok s) told = absurd (cc)
-      by t used (Err e) told = tt

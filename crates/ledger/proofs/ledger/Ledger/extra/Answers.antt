@@ -1,7 +1,6 @@
 use Rattle.std.proofs.Common.{◌≡◌, ◌-◌, ◌*◌, ◌<◌, true, length, get_or, sym, arith}
 use Rattle.std.proofs.lemmas.Grind.{common_steps}
 use Rattle.std.proofs.lemmas.Bool.{cond-true, cond-false}
-use Rattle.ledger.specs.Fair.{JobFair}
 use Rattle.ledger.specs.Seats.{nobody, in_use}
 use Rattle.ledger.proofs.Bounds.{job_adds_few}
 use Rattle.ledger.proofs.Facts.{fair_of}

@@ -9,7 +9,15 @@ use Rattle.ledger.proofs.Kept.{run_adds, run_unsettles}
 use Rattle.ledger.proofs.ledger.Ledger.ran.Goals as goal
 
 pub ran-requires : goal.ran-requires
-ran-requires c = let b = fair_of c.args.self.now in search rules
+ran-requires c =
+    let b = fair_of c.args.self.now in
+    let j = c.in-Ok.ensures.found.fair in
+    let most = account_within j in
+    let made = due_within j in
+    let small : c.args.self.now.frame.alpha ≤ 32 = omega (arith, b.yields_within, b.small_blocks) in
+    let few : c.in-Ok.found.runs ≤ 1024 = omega (arith, j.runs_few) in
+    let won = mul-le-mul small few in
+    (omega (arith, j.writes_few, b.yields_within, b.small_blocks), omega (arith, j.runs_few))
 
 pub invariant_of-self : goal.invariant_of-self
 invariant_of-self c =
