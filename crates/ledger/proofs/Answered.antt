@@ -1,67 +1,22 @@
 -- What it says of the books that no question was answered "no". Assumes nothing.
-use Rattle.std.proofs.Common.{◌≡◌, ℕ, ◌+◌, ◌<◌, ◌≤◌, Bool, true, false, eqb, ltb, leb, IfOk, Some, None, Ok, Err, Option, Result, sym, refl, subst, arith}
+use Rattle.std.proofs.Common.{rules, ◌≡◌, ℕ, ◌+◌, ◌<◌, ◌≤◌, Bool, true, false, ltb, Some, None, Option, refl}
 use Rattle.plan.specs.declared.numbers.Plan.{Plan}
 use Rattle.plan.specs.Plan.{planned}
-use Rattle.std.proofs.lemmas.Bool.{and_parts, ltb-true, leb-true, eqb-true}
+use Rattle.std.proofs.lemmas.Bool.{and_parts, ltb-true}
 use Rattle.ledger.specs.declared.refusal.Refusal.{Refusal}
-use Rattle.ledger.specs.declared.refusal.Refusal.TheVariants.{NoSuchSeat, SeatInUse, PoolTooSmall, YieldRuleWouldFail, SeatNotInUse, SeatNotServing, AllCharged, PermitsOut, NoPermitOut}
-use Rattle.ledger.specs.declared.seat.Seat.{Seat}
-use Rattle.ledger.specs.Fair.{FairBooks, Found}
-use Rattle.ledger.specs.Seats.{is_empty, is_serving, in_use}
-use Rattle.ledger.specs.Books.{Books, seat_of, collector_share, ask, answer, used_seat, rule_with, asks_plan, asks_admit, asks_notice, asks_take, asks_return}
+use Rattle.ledger.specs.Seats.{is_empty, in_use}
+use Rattle.ledger.specs.Books.{Books, seat_of, collector_share, ask, used_seat, rule_with, asks_admit}
 
 -- a question that was not answered "no", and the questions after it
 pub asked : (t : Bool) (e : Refusal) (rest : Option Refusal) → ask t e rest ≡ None → (t ≡ true) × (rest ≡ None)
 asked true e rest none = (refl, none)
-asked false e rest none = (let z : ◌≡◌ {A = ℕ} 0 1 = cc in absurd (omega arith))
+asked false e rest none = absurd (cc)
 
 module _ (b : Books) (i : ℕ) where
   pub used_parts : used_seat b i ≡ true → (i < 8) × (in_use (seat_of b i) ≡ true)
   used_parts used = let p = and_parts (ltb i 8) (in_use (seat_of b i)) used in (ltb-true i 8 p.0, p.1)
 
-  pub take_granted : asks_take b i ≡ None → (used_seat b i ≡ true) × (is_serving (seat_of b i) ≡ true) × ((seat_of b i).charge < (seat_of b i).plan.writes)
-  take_granted none =
-      let first = asked (used_seat b i) SeatNotInUse _ none in
-      let second = asked (is_serving (seat_of b i)) SeatNotServing _ first.1 in
-      let third = asked (ltb (seat_of b i).charge (seat_of b i).plan.writes) AllCharged None second.1 in
-      (first.0, second.0, ltb-true _ _ third.0)
-
-  pub notice_granted : asks_notice b i ≡ None → (used_seat b i ≡ true) × (is_serving (seat_of b i) ≡ true) × ((seat_of b i).out ≡ 0)
-  notice_granted none =
-      let first = asked (used_seat b i) SeatNotInUse _ none in
-      let second = asked (is_serving (seat_of b i)) SeatNotServing _ first.1 in
-      let third = asked (eqb (seat_of b i).out 0) PermitsOut None second.1 in
-      (first.0, second.0, eqb-true _ _ third.0)
-
-  pub return_granted : asks_return b i ≡ None → (used_seat b i ≡ true) × (0 < (seat_of b i).out)
-  return_granted none =
-      let first = asked (used_seat b i) SeatNotInUse _ none in
-      let second = asked (ltb 0 (seat_of b i).out) NoPermitOut None first.1 in
-      (first.0, ltb-true _ _ second.0)
-
-  plan_granted : (o : Option Plan) → asks_plan b o ≡ None → (plan : Plan) × (o ≡ Some plan) × (plan.writes + collector_share b.frame ≤ b.pool) × (rule_with b plan ≡ true)
-  plan_granted None none = (let z : ◌≡◌ {A = ℕ} 0 1 = cc in absurd (omega arith))
-  plan_granted (Some plan) none =
-      let first = asked (leb (plan.writes + collector_share b.frame) b.pool) PoolTooSmall _ none in
-      let second = asked (rule_with b plan) YieldRuleWouldFail None first.1 in
-      (plan, refl, leb-true _ _ first.0, second.0)
-
   pub admit_granted :
       (p w : ℕ) → asks_admit b i p w ≡ None →
       (i < 8) × (is_empty (seat_of b i) ≡ true) × ((plan : Plan) × (planned b.frame.alpha p w ≡ Some plan) × (plan.writes + collector_share b.frame ≤ b.pool) × (rule_with b plan ≡ true))
-  admit_granted p w none =
-      let first = asked (ltb i 8) NoSuchSeat _ none in
-      let second = asked (is_empty (seat_of b i)) SeatInUse _ first.1 in
-      (ltb-true i 8 first.0, second.0, plan_granted (planned b.frame.alpha p w) second.1)
-
-  -- a seat that was found in use is the books' own, and fair
-  pub found_in : FairBooks b → (r : Result Seat Refusal) → r ≡ answer (ask (used_seat b i) SeatNotInUse None) (seat_of b i) → IfOk r (λ s. Found b i s)
-  found_in fair r told = by (used_seat b i) refl r told
-    where
-      by : (t : Bool) → used_seat b i ≡ t → (r : Result Seat Refusal) → r ≡ answer (ask t SeatNotInUse None) (seat_of b i) → IfOk r (λ s. Found b i s)
-      by true used (Ok s) told =
-          let is : s ≡ seat_of b i = cc in
-          let parts = used_parts used in
-          subst (Found b i) (sym is) (record { there = parts.0; is = refl; used = parts.1; fair = (fair.each i parts.0).used parts.1 })
-      by false used (Ok s) told = (let z : ◌≡◌ {A = ℕ} 0 1 = cc in absurd (omega arith))
-      by t used (Err e) told = tt
+  admit_granted p w none = search rules

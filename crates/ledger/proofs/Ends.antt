@@ -1,75 +1,36 @@
--- The end of a seat's tick: what it gives the pool, and that a seat not in use stays. Assumes nothing.
-use Rattle.std.proofs.Common.{◌≡◌, ℕ, ◌+◌, ◌*◌, ◌<◌, ◌≤◌, Bool, true, false, cond, not, ◌&&◌, eqb, ltb, List, get_or, set, sym, refl, ap, ◌∙◌, inl, inr, mul-le-mul, arith}
-use lib.Seq.{set-get_or}
-use Rattle.std.proofs.lemmas.List.{get_or_past}
-use Rattle.std.proofs.lemmas.Bool.{cond-true, cases_lt, ltb-true, lt-ltb, and_from, both_ways}
+-- The end of a seat's tick: what it gives the pool. Assumes nothing.
+use Rattle.std.proofs.Common.{rules, ◌≡◌, ℕ, ◌+◌, ◌≤◌, cond, List, set, ap, arith}
 use Rattle.ledger.specs.declared.frame.Frame.{Frame}
 use Rattle.ledger.specs.declared.ledger.Ledger.{Ledger}
 use Rattle.ledger.specs.declared.seat.Seat.{Seat}
-use Rattle.ledger.specs.declared.seat.Status.{Status}
-use Rattle.ledger.specs.declared.seat.Status.TheVariants.{Empty, Serving, OnNotice}
-use Rattle.ledger.specs.Seats.{nobody, in_use, empty_status, serving_status, at_end, turned}
-use Rattle.ledger.specs.Books.{seat_of, collector_share, extra, used_seat, leaves, ended}
+use Rattle.ledger.specs.Seats.{turned}
+use Rattle.ledger.specs.Books.{collector_share, extra, leaves}
 use Rattle.ledger.specs.Fair.{Fair, Found}
 use Rattle.ledger.specs.Of.{books_of}
 use Rattle.ledger.proofs.Facts.{fair_of}
 use Rattle.ledger.proofs.Jobs.{turned_fair, job_seat}
 use Rattle.ledger.proofs.Puts.{fair_put_down}
 use Rattle.ledger.specs.Shares.{had, adds}
-use Rattle.ledger.proofs.Sums.{lent_has}
-
--- by how a seat stands and whether its meta-period has ended
-turned_had :
-    (f : Frame) (s : Seat) (b : Bool) (st : Status) → s.status ≡ st →
-    cond (not (empty_status st) && (not (serving_status st) && b)) (s.plan.writes + collector_share f) 0 + had f (cond b (at_end st s) s) ≡ had f s
-turned_had f s true Empty is = omega arith
-turned_had f s true Serving is = omega arith
-turned_had f s true OnNotice is =
-    let all = cond-true (in_use s) (s.plan.writes + collector_share f) 0 (ap (λ x. not (empty_status x)) is) in
-    omega arith
-turned_had f s false Empty is = omega arith
-turned_had f s false Serving is = omega arith
-turned_had f s false OnNotice is = omega arith
-
-turned_adds : (α : ℕ) (s : Seat) (b : Bool) (st : Status) → adds α (cond b (at_end st s) s) ≤ adds α s
-turned_adds α s true Empty = omega arith
-turned_adds α s true Serving = omega arith
-turned_adds α s true OnNotice = omega arith
-turned_adds α s false st = omega arith
 
 -- what the end of a tick gives the pool
 abbrev pub back : Frame → Seat → ℕ
 back f s = cond (leaves s) (s.plan.writes + collector_share f) 0
 
 pub back_had : (f : Frame) (s : Seat) → back f s + had f (turned s) ≡ had f s
-back_had f s = turned_had f s (eqb s.elapsed s.plan.meta_period) s.status refl
+back_had f s = search rules
 
 pub turned_adds_less : (α : ℕ) (s : Seat) → adds α (turned s) ≤ adds α s
-turned_adds_less α s = turned_adds α s (eqb s.elapsed s.plan.meta_period) s.status
+turned_adds_less α s = search rules
 
 -- the yield rule leaves no room for more tokens than pages
 module _ {xs : List Seat} {pool spare : ℕ} {f : Frame} (b : Fair xs pool spare f) where
   pub highest_few : f.pool + f.allowance + extra f.alpha xs ≤ 2112
-  highest_few =
-      let rule = ltb-true (f.numbers + (f.pool + f.allowance + extra f.alpha xs) + f.alpha + f.alpha * f.blocks) (f.blocks * f.pages_per_block + f.blocks + 1) b.rule in
-      let pages : f.blocks * f.pages_per_block ≤ 64 * 32 = mul-le-mul b.few_blocks b.small_blocks in
-      let few = b.few_blocks in
-      omega arith
+  highest_few = search rules
 
   pub tokens_few : f.pool + f.allowance ≤ 2112
   tokens_few = omega (arith, highest_few)
 
 module _ (l : Ledger) {i : ℕ} {s : Seat} (found : Found (books_of l) i s) where
-  -- what the pool lent to a seat still fits the pool
-  pub lent_fits : l.pool + (s.plan.writes + collector_share l.frame) ≤ l.frame.pool
-  lent_fits =
-      let f = l.frame in
-      let b = fair_of l in
-      let all = cond-true (in_use s) (s.plan.writes + collector_share f) 0 found.used in
-      let here = ap (had f) found.is in
-      let part = lent_has f l.seats i (omega (arith, b.eight, found.there)) in
-      omega (arith, b.lent_out)
-
   pub turned_put : Fair (set l.seats i (turned s)) (l.pool + back l.frame s) l.spare l.frame
   turned_put =
       let f = l.frame in
@@ -78,27 +39,3 @@ module _ (l : Ledger) {i : ℕ} {s : Seat} (found : Found (books_of l) i s) wher
       let here = ap (had f) found.is in
       let plus = ap (adds f.alpha) found.is in
       fair_put_down (fair_of l) i (turned s) found.there (turned_fair (job_seat found.used found.fair)) (l.pool + back f s) (omega arith) (omega arith)
-
--- ---- a seat that is not in use
-
-module _ {xs : List Seat} {pool spare : ℕ} {f : Frame} (b : Fair xs pool spare f) where
-  pub unused_nobody : (i : ℕ) → (ltb i 8 && in_use (get_or xs i nobody)) ≡ false → get_or xs i nobody ≡ nobody
-  unused_nobody i none =
-      elim (cases_lt i 8) [
-        | inl there ↦ (b.each i there).unused (empty (in_use (get_or xs i nobody)) refl there none)
-        | inr past ↦ get_or_past xs i nobody (omega (arith, b.eight))
-      ]
-    where
-      empty : (u : Bool) → in_use (get_or xs i nobody) ≡ u → i < 8 → (ltb i 8 && in_use (get_or xs i nobody)) ≡ false → in_use (get_or xs i nobody) ≡ false
-      empty true is there none = absurd (both_ways (ltb i 8 && in_use (get_or xs i nobody)) none (and_from (ltb i 8) (in_use (get_or xs i nobody)) (lt-ltb i 8 there) is))
-      empty false is there none = is
-
-pub ended_unused : (l : Ledger) (i : ℕ) → used_seat (books_of l) i ≡ false → books_of l ≡ ended (books_of l) i
-ended_unused l i none =
-    let s = seat_of (books_of l) i in
-    let is : s ≡ nobody = unused_nobody (fair_of l) i none in
-    let stays : turned s ≡ s = ap turned is ∙ sym is in
-    let same : l.seats ≡ set l.seats i (turned s) = sym (ap (set l.seats i) stays ∙ set-get_or l.seats i nobody) in
-    let no-share : back l.frame s ≡ 0 = ap (back l.frame) is in
-    let pool-same : l.pool ≡ l.pool + back l.frame s = omega arith in
-    λ k. record { seats = same k; pool = pool-same k; spare = l.spare; frame = l.frame }

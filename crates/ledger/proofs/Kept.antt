@@ -1,19 +1,18 @@
 -- What each call keeps, from what it does. Assumes nothing.
-use Rattle.std.proofs.Common.{◌≡◌, ℕ, ◌+◌, ◌-◌, ◌<◌, ◌≤◌, ◌&&◌, ltb, Some, None, Ok, Err, Option, Result, sym, refl, ap, ◌∙◌, subst, arith, MatchResult}
+use Rattle.std.proofs.lemmas.Grind.{common_steps}
+use Rattle.std.proofs.Common.{◌≡◌, ℕ, ◌+◌, ◌<◌, ◌≤◌, Some, None, Ok, Err, Option, Result, sym, refl, subst, arith, MatchResult}
 use Rattle.plan.specs.declared.numbers.Plan.{Plan}
 use Rattle.plan.specs.Plan.{plan_of}
-use Rattle.std.proofs.lemmas.Bool.{cond_both}
 use Rattle.ledger.specs.declared.refusal.Refusal.{Refusal}
-use Rattle.ledger.specs.Books.{Books, seat_of, tokens, answer, unless, used_seat, asks_notice, asks_take, asks_return, asks_admit, noticed, taken, returned, spent, paid, admitted, entered, ran_once, ended}
+use Rattle.ledger.specs.Books.{Books, tokens, answer, unless, asks_notice, asks_take, asks_return, asks_admit, noticed, taken, returned, spent, admitted, ended}
 use Rattle.ledger.specs.Fair.{FairBooks}
 use Rattle.ledger.specs.Keeps.{Keeps, Spends}
-use Rattle.ledger.specs.Seats.{due}
 use Rattle.ledger.specs.Settled.{Settled, SettledBut}
 use Rattle.ledger.specs.Steps.{stepped, owes, made_one}
 use Rattle.ledger.proofs.Admits.{planned_law, planned_sized}
-use Rattle.ledger.proofs.Answered.{used_parts, notice_granted, admit_granted}
-use Rattle.ledger.proofs.Settles.{noticed_settled, taken_settled, returned_settled, spent_settled, admitted_settled, entered_settled, ran_settled, settled_but, ended_settled, none_owed, owing, made_one_is}
-use Rattle.ledger.proofs.Tokens.{tokens_noticed, tokens_taken, tokens_returned, tokens_spent, tokens_paid, tokens_admitted, tokens_entered, tokens_ran, tokens_ended}
+use Rattle.ledger.proofs.Answered.{admit_granted}
+use Rattle.ledger.proofs.Settles.{noticed_settled, taken_settled, returned_settled, spent_settled, admitted_settled, ended_settled, none_owed}
+use Rattle.ledger.proofs.Tokens.{tokens_noticed, tokens_taken, tokens_returned, tokens_spent, tokens_admitted, tokens_entered, tokens_ran, tokens_ended}
 
 pub stays : (b : Books) → Keeps b b
 stays b = record { same_tokens = refl; settled = λ all. all }
@@ -25,15 +24,13 @@ by_question {b} (Some e) is granted = subst (Keeps b) (sym is) (stays b)
 
 module _ {b c : Books} (fair : FairBooks b) (i : ℕ) where
   pub notice_keeps : c ≡ unless (asks_notice b i) (noticed b i) b → Keeps b c
-  notice_keeps is =
-      by_question (asks_notice b i) is
-      (λ granted. record { same_tokens = tokens_noticed b i; settled = noticed_settled b i fair.eight (notice_granted b i granted).0 })
+  notice_keeps is = grind (arith, common_steps, tokens_noticed b i, noticed_settled b i)
 
   pub take_keeps : c ≡ unless (asks_take b i) (taken b i) b → Keeps b c
-  take_keeps is = by_question (asks_take b i) is (λ _. record { same_tokens = tokens_taken b i; settled = taken_settled b i fair.eight })
+  take_keeps is = grind (arith, common_steps, tokens_taken b i, taken_settled b i)
 
   pub return_keeps : c ≡ unless (asks_return b i) (returned b i) b → Keeps b c
-  return_keeps is = by_question (asks_return b i) is (λ _. record { same_tokens = tokens_returned b i; settled = returned_settled b i fair.eight })
+  return_keeps is = grind (arith, common_steps, tokens_returned b i, returned_settled b i)
 
   pub admit_keeps : (p w : ℕ) → c ≡ unless (asks_admit b i p w) (admitted b i (plan_of b.frame.alpha p w)) b → Keeps b c
   admit_keeps p w is = by_question (asks_admit b i p w) is admitted_keeps
@@ -53,42 +50,30 @@ module _ {b c : Books} (fair : FairBooks b) (i : ℕ) where
   spend_by : (q : Option Refusal) → asks_return b i ≡ q → (r : Result (Unit {0}) Refusal) → r ≡ answer q tt → c ≡ unless q (spent b i) b → MatchResult r (λ _. Spends b c) (λ _. Keeps b c)
   spend_by None granted (Ok x) told is =
       subst (Spends b) (sym is) (record { one_less = tokens_spent b i fair granted; settled = spent_settled b i fair.eight })
-  spend_by None granted (Err e) told is = (let z : ◌≡◌ {A = ℕ} 0 1 = cc in absurd (omega arith))
-  spend_by (Some e) granted (Ok x) told is = (let z : ◌≡◌ {A = ℕ} 0 1 = cc in absurd (omega arith))
+  spend_by None granted (Err e) told is = absurd (cc)
+  spend_by (Some e) granted (Ok x) told is = absurd (cc)
   spend_by (Some e) granted (Err d) told is = subst (Keeps b) (sym is) (stays b)
 
   pub spend_keeps : (r : Result (Unit {0}) Refusal) → r ≡ answer (asks_return b i) tt → c ≡ unless (asks_return b i) (spent b i) b → MatchResult r (λ _. Spends b c) (λ _. Keeps b c)
   spend_keeps r told is = spend_by (asks_return b i) refl r told is
 
-pub paid_is : (b : Books) (n : ℕ) → n ≡ b.spare - 1 → ◌≡◌ {A = Books} (record { seats = b.seats; pool = b.pool; spare = n; frame = b.frame }) (paid b)
-paid_is b n is = λ k. record { seats = b.seats; pool = b.pool; spare = is k; frame = b.frame }
-
-pub pay_keeps : {b c : Books} → c ≡ paid b → 0 < b.spare → Spends b c
-pay_keeps {b} is some = subst (Spends b) (sym is) (record { one_less = tokens_paid b some; settled = λ all. all })
-
 -- ---- the parts of a tick
 
 module _ {b c : Books} (fair : FairBooks b) (i : ℕ) where
   pub step_keeps : c ≡ stepped b i → tokens c ≡ tokens b
-  step_keeps is = ap tokens is ∙ cond_both (used_seat b i && ltb (seat_of b i).elapsed (seat_of b i).plan.meta_period) (entered b i) b (λ x. tokens x ≡ tokens b) (λ _. tokens_entered b i) (λ _. refl)
+  step_keeps is = grind (arith, common_steps, tokens_entered b i)
 
   pub run_adds : c ≡ made_one b i → 0 < owes b i → tokens c ≡ tokens b + b.frame.alpha
-  run_adds is some =
-      let within = (used_parts b i (owing b i fair some).0).0 in
-      ap tokens (is ∙ made_one_is b i fair some) ∙ tokens_ran b i (omega (arith, fair.eight))
+  run_adds is some = grind (arith, common_steps, tokens_ran b i)
 
   pub step_unsettles : c ≡ stepped b i → Settled b → SettledBut i c
-  step_unsettles is all =
-      subst (SettledBut i) (sym is)
-      (cond_both (used_seat b i && ltb (seat_of b i).elapsed (seat_of b i).plan.meta_period) (entered b i) b (SettledBut i) (λ _. entered_settled b i fair.eight all) (λ _. settled_but b i fair.eight all))
+  step_unsettles is all = grind (arith, common_steps)
 
   pub run_unsettles : c ≡ made_one b i → SettledBut i b → SettledBut i c
-  run_unsettles is but =
-      subst (SettledBut i) (sym is)
-      (cond_both (used_seat b i && ltb (seat_of b i).runs (due (seat_of b i))) (ran_once b i) b (SettledBut i) (λ _. ran_settled b i fair.eight but) (λ _. but))
+  run_unsettles is but = grind (arith, common_steps)
 
   pub end_keeps : c ≡ ended b i → owes b i ≡ 0 → tokens c ≤ tokens b
-  end_keeps is none = subst (λ (x : Books). tokens x ≤ tokens b) (sym is) (tokens_ended b i fair (none_owed b i fair none))
+  end_keeps is none = grind (arith, common_steps, tokens_ended, none_owed)
 
   pub end_settles : c ≡ ended b i → i < 8 → owes b i ≡ 0 → SettledBut i b → Settled c
   end_settles is within none but = subst Settled (sym is) (ended_settled b i fair within but (none_owed b i fair none))

@@ -5,7 +5,6 @@ pub mod Sums
 pub mod Puts
 pub mod Ends
 pub mod Bounds
-pub mod Opens
 pub mod Admits
 pub mod Answered
 pub mod Tokens

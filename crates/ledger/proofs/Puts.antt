@@ -1,9 +1,9 @@
 -- Books stay fair when one fair seat takes the place of another. Assumes nothing.
-use Rattle.std.proofs.Common.{◌≡◌, ℕ, ◌+◌, ◌-◌, ◌*◌, ◌<◌, ◌≤◌, true, List, length, get_or, set, sym, refl, ap, ◌∙◌, subst, arith, length-set, get_or-set_other, get_or-set_same}
-use native.Mathlib.Decide.{ℕ_discrete}
+use Rattle.std.proofs.lemmas.Grind.{common_steps}
+use Rattle.std.proofs.Common.{rules, ◌≡◌, ℕ, ◌+◌, ◌-◌, ◌*◌, ◌<◌, ◌≤◌, true, List, length, get_or, set, sym, refl, ap, arith}
 use Rattle.plan.specs.declared.numbers.Plan.{Plan}
 use Rattle.plan.specs.Yield.{yield_rule}
-use Rattle.std.proofs.lemmas.Bool.{ltb-true, lt-ltb, cond-true}
+use Rattle.std.proofs.lemmas.Bool.{cond-true}
 use Rattle.ledger.specs.declared.frame.Frame.{Frame}
 use Rattle.ledger.specs.declared.ledger.Ledger.{Ledger}
 use Rattle.ledger.specs.declared.seat.Seat.{Seat}
@@ -18,9 +18,7 @@ use Rattle.ledger.proofs.Sums.{lent_set, extra_set}
 
 -- with fewer tokens the yield rule stands all the more
 pub rule_under : (N π M H G α : ℕ) → G ≤ H → yield_rule N π M H α ≡ true → yield_rule N π M G α ≡ true
-rule_under N π M H G α less stands =
-    let before = ltb-true (M + H + α + α * N) (N * π + N + 1) stands in
-    lt-ltb (M + G + α + α * N) (N * π + N + 1) (omega arith)
+rule_under N π M H G α less stands = search rules
 
 module _ {xs : List Seat} {pool spare : ℕ} {f : Frame} (b : Fair xs pool spare f) (i : ℕ) (s : Seat) (within : i < 8) (fair : SeatFair f s) where
   there : i < length xs
@@ -32,22 +30,7 @@ module _ {xs : List Seat} {pool spare : ℕ} {f : Frame} (b : Fair xs pool spare
       after + had f s ≡ pool + had f (get_or xs i nobody) →
       yield_rule f.blocks f.pages_per_block f.numbers (f.pool + f.allowance + extra f.alpha (set xs i s)) f.alpha ≡ true →
       Fair (set xs i s) after spare f
-  fair_put_with after moved rule =
-      let sum = lent_set f xs i s there in
-      record {
-        eight = simp length-set b.eight;
-        each = λ k h. elim (ℕ_discrete k i) [
-          | yes same ↦ (let here = get_or-set_same xs i s nobody there in subst (SeatFair f) (sym (ap (λ n. get_or (set xs i s) n nobody) same ∙ here)) fair)
-          | no apart ↦ (let other = get_or-set_other xs i k s nobody apart in subst (SeatFair f) (sym other) (b.each k h))
-        ];
-        lent_out = omega (arith, b.lent_out);
-        spare_within = b.spare_within;
-        yields = b.yields;
-        yields_within = b.yields_within;
-        small_blocks = b.small_blocks;
-        few_blocks = b.few_blocks;
-        rule = rule;
-      }
+  fair_put_with after moved rule = grind (arith, common_steps, lent_set)
 
   pub fair_put_down : (after : ℕ) → after + had f s ≡ pool + had f (get_or xs i nobody) → adds f.alpha s ≤ adds f.alpha (get_or xs i nobody) → Fair (set xs i s) after spare f
   fair_put_down after moved less =
@@ -93,12 +76,10 @@ module _ (l : Ledger) {i : ℕ} {s : Seat} (found : Found (books_of l) i s) wher
   pub ran_put : s.runs < due s → Fair (set l.seats i (ran l.frame.alpha s)) l.pool l.spare l.frame
   ran_put more = fair_swap (ran l.frame.alpha s) refl found.used (ran_fair found.fair more)
 
-  -- the same for what a function made of the seat
-  pub put_as : {t u : Seat} → t ≡ u → Fair (set l.seats i u) l.pool l.spare l.frame → Fair (set l.seats i t) l.pool l.spare l.frame
-  put_as {t} {u} is fair = subst (λ (x : Seat). Fair (set l.seats i x) l.pool l.spare l.frame) (sym is) fair
+  -- the same for what a function made of the seat, at an index that is the seat's number
+  pub put_as : {k : ℕ} {t u : Seat} → k ≡ i → t ≡ u → Fair (set l.seats i u) l.pool l.spare l.frame → Fair (set l.seats k t) l.pool l.spare l.frame
+  put_as at is fair = search rules
 
 pub put_as_with :
-    (l : Ledger) (i : ℕ) {p q : ℕ} {t u : Seat} → t ≡ u → p ≡ q → Fair (set l.seats i u) q l.spare l.frame → Fair (set l.seats i t) p l.spare l.frame
-put_as_with l i {p} {q} {t} {u} is much fair =
-    let seats : Fair (set l.seats i t) q l.spare l.frame = subst (λ (x : Seat). Fair (set l.seats i x) q l.spare l.frame) (sym is) fair in
-    subst (λ (x : ℕ). Fair (set l.seats i t) x l.spare l.frame) (sym much) seats
+    (l : Ledger) (i : ℕ) {k p q : ℕ} {t u : Seat} → k ≡ i → t ≡ u → p ≡ q → Fair (set l.seats i u) q l.spare l.frame → Fair (set l.seats k t) p l.spare l.frame
+put_as_with l i at is much fair = search rules

@@ -36,9 +36,6 @@ held_has xs i h = sum_has holds held (λ _ _. refl) xs i nobody h
 pub lent_set : (f : Frame) (xs : List Seat) (i : ℕ) (s : Seat) → i < length xs → lent f (set xs i s) + had f (get_or xs i nobody) ≡ lent f xs + had f s
 lent_set f xs i s h = sum_set (had f) (lent f) (λ _ _. refl) xs i s nobody h
 
-pub lent_has : (f : Frame) (xs : List Seat) (i : ℕ) → i < length xs → had f (get_or xs i nobody) ≤ lent f xs
-lent_has f xs i h = sum_has (had f) (lent f) (λ _ _. refl) xs i nobody h
-
 pub extra_set : (α : ℕ) (xs : List Seat) (i : ℕ) (s : Seat) → i < length xs → extra α (set xs i s) + adds α (get_or xs i nobody) ≡ extra α xs + adds α s
 extra_set α xs i s h = sum_set (adds α) (extra α) (λ _ _. refl) xs i s nobody h
 

@@ -1,53 +1,26 @@
 -- What each move makes of the number of tokens. Assumes nothing.
-use Rattle.std.proofs.Common.{◌≡◌, ℕ, suc, ◌+◌, ◌-◌, ◌*◌, ◌/◌, ◌<◌, ◌≤◌, Bool, true, false, cond, not, ◌&&◌, eqb, ltb, List, [], ◌∷◌, length, get_or, None, refl, ap, ◌∙◌, inl, inr, mul-le-mul_right, mul_comm, arith}
+use Rattle.std.proofs.lemmas.Grind.{common_steps}
+use Rattle.std.proofs.Common.{◌≡◌, ℕ, suc, ◌+◌, ◌-◌, ◌<◌, ◌≤◌, Bool, true, false, cond, not, ◌&&◌, eqb, List, [], ◌∷◌, length, get_or, None, refl, mul_comm, arith}
 use Rattle.plan.specs.declared.numbers.Plan.{Plan}
-use Rattle.std.proofs.lemmas.List.{get_or_past, set_past}
-use Rattle.std.proofs.lemmas.Bool.{cases_lt, cond-true, eqb-true, and_from, lt-ltb}
+use Rattle.std.proofs.lemmas.Bool.{eqb-true}
 use Rattle.ledger.specs.declared.frame.Frame.{Frame}
 use Rattle.ledger.specs.declared.seat.Seat.{Seat}
 use Rattle.ledger.specs.declared.seat.Status.{Status}
 use Rattle.ledger.specs.declared.seat.Status.TheVariants.{Empty, Serving, OnNotice}
-use Rattle.ledger.specs.Seats.{nobody, is_empty, in_use, empty_status, serving_status, seated, saved, due, ran, at_end, turned}
-use Rattle.ledger.specs.Books.{
-  Books,
-  seat_of,
-  held,
-  tokens,
-  extra,
-  highest,
-  lent,
-  collector_share,
-  used_seat,
-  asks_return,
-  with_seat,
-  admitted,
-  noticed,
-  taken,
-  returned,
-  spent,
-  paid,
-  entered,
-  ran_once,
-  ended,
-}
+use Rattle.ledger.specs.Seats.{nobody, is_empty, in_use, empty_status, serving_status, due, at_end, turned}
+use Rattle.ledger.specs.Books.{Books, seat_of, held, tokens, extra, highest, lent, collector_share, used_seat, asks_return, with_seat, admitted, noticed, taken, returned, spent, entered, ran_once, ended}
 use Rattle.ledger.specs.Fair.{FairBooks, JobFair, SeatFair}
 use Rattle.ledger.specs.Settled.{Below}
 use Rattle.ledger.specs.Shares.{holds, had, adds}
-use Rattle.ledger.proofs.Answered.{return_granted, used_parts}
-use Rattle.ledger.proofs.Bounds.{seat_ways}
 use Rattle.ledger.proofs.Clockwork.{runs_full}
 use Rattle.ledger.proofs.Ends.{back}
-use Rattle.ledger.proofs.Jobs.{out_paid, account_within}
+use Rattle.ledger.proofs.Jobs.{out_paid}
 use Rattle.ledger.proofs.Sums.{held_set, held_has}
 
 module _ (b : Books) (i : ℕ) where
   -- another record with as many tokens
   tokens_same : (s : Seat) → holds s ≡ holds (seat_of b i) → tokens (with_seat b i s) ≡ tokens b
-  tokens_same s same =
-      elim (cases_lt i (length b.seats)) [
-        | inl there ↦ (let sum = held_set b.seats i s there in omega arith)
-        | inr past ↦ ap (λ (xs : List Seat). b.pool + b.spare + held xs) (set_past b.seats i s past)
-      ]
+  tokens_same s same = grind (arith, common_steps, held_set)
 
   pub tokens_noticed : tokens (noticed b i) ≡ tokens b
   tokens_noticed = tokens_same _ refl
@@ -62,40 +35,23 @@ module _ (b : Books) (i : ℕ) where
   tokens_entered = tokens_same _ refl
 
   pub tokens_ran : i < length b.seats → tokens (ran_once b i) ≡ tokens b + b.frame.alpha
-  tokens_ran there = let sum = held_set b.seats i (ran b.frame.alpha (seat_of b i)) there in omega arith
+  tokens_ran there = grind (arith, common_steps, held_set)
 
   pub tokens_admitted :
       FairBooks b → i < 8 → is_empty (seat_of b i) ≡ true → (plan : Plan) → plan.writes + collector_share b.frame ≤ b.pool →
       tokens (admitted b i plan) ≡ tokens b
-  tokens_admitted fair there empty plan room =
-      let sum = held_set b.seats i (seated plan (collector_share b.frame)) (omega (arith, fair.eight)) in
-      let none = ap holds ((fair.each i there).unused (ap not empty)) in
-      omega arith
+  tokens_admitted fair there empty plan room = grind (arith, common_steps, held_set)
 
   -- a stored save takes one token, of its seat's account
   pub tokens_spent : FairBooks b → asks_return b i ≡ None → tokens (spent b i) + 1 ≡ tokens b
-  tokens_spent fair granted =
-      let told = return_granted b i granted in
-      let used = used_parts b i told.0 in
-      let paid_for = out_paid ((fair.each i used.0).used used.1) in
-      let out = told.1 in
-      let there = used.0 in
-      let sum = held_set b.seats i (saved (seat_of b i)) (omega (arith, fair.eight)) in
-      omega arith
-
--- a failed try takes one token, of the spare account
-pub tokens_paid : (b : Books) → 0 < b.spare → tokens (paid b) + 1 ≡ tokens b
-tokens_paid b some = omega arith
+  tokens_spent fair granted = grind (arith, common_steps, held_set, out_paid)
 
 -- ---- the end of a meta-period
 
 module _ {f : Frame} {s : Seat} (j : JobFair f s) where
   -- once all runs of a meta-period are made, the account holds what the next one starts with
   pub turn_pays : s.elapsed ≡ s.plan.meta_period → s.runs ≡ due s → s.plan.writes ≤ s.account
-  turn_pays full made =
-      let all : s.runs ≡ s.plan.runs = made ∙ ap (λ e. e * s.plan.runs / s.plan.meta_period) full ∙ runs_full s.plan.runs s.plan.meta_period j.lasts in
-      let won : f.alpha * s.runs ≡ s.plan.runs * f.alpha = ap (λ n. f.alpha * n) all ∙ mul_comm f.alpha s.plan.runs in
-      omega (arith, j.true_account, j.within, j.won_back)
+  turn_pays full made = grind (arith, common_steps, runs_full, mul_comm)
 
   end_holds :
       (t : Bool) (st : Status) → eqb s.elapsed s.plan.meta_period ≡ t → s.runs ≡ due s →
@@ -110,29 +66,9 @@ module _ {f : Frame} {s : Seat} (j : JobFair f s) where
   pub ends_lower : s.runs ≡ due s → back f s + holds (turned s) ≤ holds s
   ends_lower made = end_holds (eqb s.elapsed s.plan.meta_period) s.status refl made
 
-used_from : (b : Books) (i : ℕ) → i < 8 → in_use (seat_of b i) ≡ true → used_seat b i ≡ true
-used_from b i there used = and_from (ltb i 8) (in_use (seat_of b i)) (lt-ltb i 8 there) used
-
-nobody_past : (b : Books) (i : ℕ) → FairBooks b → 8 ≤ i → seat_of b i ≡ nobody
-nobody_past b i fair past = get_or_past b.seats i nobody (omega (arith, fair.eight))
-
 -- the end of a seat's tick never makes tokens
 pub tokens_ended : (b : Books) (i : ℕ) → FairBooks b → (used_seat b i ≡ true → (seat_of b i).runs ≡ due (seat_of b i)) → tokens (ended b i) ≤ tokens b
-tokens_ended b i fair made =
-    elim (cases_lt i 8) [
-      | inl there ↦ (
-          let sum = held_set b.seats i (turned (seat_of b i)) (omega (arith, fair.eight)) in
-          elim (seat_ways (fair.each i there)) [
-            | inl empty ↦ (let gone = ap (λ (x : Seat). back b.frame x) empty.1 in let less = ap (λ (x : Seat). holds (turned x)) empty.1 in omega arith)
-            | inr job ↦ (let less = ends_lower job.1 (made (used_from b i there job.0)) in omega arith)
-          ]
-          )
-      | inr past ↦ (
-          let same = ap held (set_past b.seats i (turned (seat_of b i)) (omega (arith, fair.eight))) in
-          let none = ap (λ (x : Seat). back b.frame x) (nobody_past b i fair past) in
-          omega arith
-          )
-    ]
+tokens_ended b i fair made = grind (arith, common_steps, held_set, ends_lower)
 
 -- ---- the cap
 
@@ -147,19 +83,7 @@ module _ (F H K : List Seat → ℕ) (p q r : Seat → ℕ) (f-step : (x : Seat)
 
 -- a seat that still has a run to make holds at most its share and the yield of the runs before the last
 pub seat_cap : {f : Frame} {s : Seat} → SeatFair f s → (in_use s ≡ true → s.runs < s.plan.runs) → holds s ≤ had f s + adds f.alpha s
-seat_cap {f} {s} fair below =
-    elim (seat_ways fair) [
-      | inl empty ↦ (let none = ap holds empty.1 in omega arith)
-      | inr job ↦ (
-          let lent-here = cond-true (in_use s) (s.plan.writes + collector_share f) 0 job.0 in
-          let more-here = cond-true (in_use s) ((s.plan.runs - 1) * f.alpha) 0 job.0 in
-          let fewer = below job.0 in
-          let most = account_within job.1 in
-          let turn = mul_comm f.alpha s.runs in
-          let won : s.runs * f.alpha ≤ (s.plan.runs - 1) * f.alpha = mul-le-mul_right f.alpha (omega arith) in
-          omega (arith, job.1.copies_paid)
-          )
-    ]
+seat_cap {f} {s} fair below = grind (arith, common_steps)
 
 -- whenever a block is chosen, the tokens are at most what the yield rule reckons with
 pub tokens_capped : (b : Books) → FairBooks b → Below b → tokens b ≤ highest b
@@ -173,23 +97,11 @@ tokens_capped b fair below =
 
 -- a collector's tokens are among those that are not spare
 pub collector_within : (b : Books) (i : ℕ) → FairBooks b → used_seat b i ≡ true → collector_share b.frame + b.spare ≤ tokens b
-collector_within b i fair used =
-    let parts = used_parts b i used in
-    let job = (fair.each i parts.0).used parts.1 in
-    let there = parts.0 in
-    let part = held_has b.seats i (omega (arith, fair.eight)) in
-    omega (arith, job.copies_paid)
+collector_within b i fair used = grind (arith, common_steps, held_has)
 
 -- a permit that is out is paid for, by a token that is not spare
 pub permit_paid : (b : Books) (i : ℕ) → FairBooks b → asks_return b i ≡ None → (0 < (seat_of b i).account) × (b.spare < tokens b)
-permit_paid b i fair granted =
-    let told = return_granted b i granted in
-    let parts = used_parts b i told.0 in
-    let there = parts.0 in
-    let out = told.1 in
-    let paid_for = out_paid ((fair.each i there).used parts.1) in
-    let part = held_has b.seats i (omega (arith, fair.eight)) in
-    (omega arith, omega arith)
+permit_paid b i fair granted = grind (arith, common_steps, held_has, out_paid)
 
 -- the pool is what is not lent
 pub pool_left : (b : Books) → FairBooks b → b.pool ≡ b.frame.pool - lent b.frame b.seats

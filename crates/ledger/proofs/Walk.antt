@@ -1,31 +1,24 @@
 -- A whole tick of a seat is `passed`, and a walk over the seats passes each. Assumes nothing.
-use Rattle.std.proofs.Common.{◌≡◌, ℕ, zero, suc, ◌+◌, ◌-◌, ◌*◌, ◌<◌, ◌≤◌, true, false, List, [], ◌∷◌, map, length, get_or, set, sym, refl, ap, ◌∙◌, le_of_suc-le-suc, not-suc-le-zero, mul-zero, mul-one, mul-add, add-one, arith, get_or-set_same}
+use Rattle.std.proofs.Common.{rules, ◌≡◌, ℕ, zero, suc, ◌+◌, ◌-◌, ◌<◌, ◌≤◌, true, false, List, [], ◌∷◌, map, length, get_or, set, sym, refl, ap, ◌∙◌, le_of_suc-le-suc, not-suc-le-zero, add-one}
 use Rattle.std.proofs.lemmas.List.{set-set}
-use Rattle.std.proofs.lemmas.Bool.{cond-true, cond-false}
 use Rattle.ledger.specs.declared.seat.Seat.{Seat}
-use Rattle.ledger.specs.Seats.{nobody, in_use, one_later, due, ran, ran_times, turned, served, passed}
+use Rattle.ledger.specs.Seats.{nobody, in_use, one_later, due, ran, ran_times, turned, passed}
 use Rattle.ledger.specs.Walk.{walked}
 
 -- ---- one seat
 
-with_account : (s : Seat) (a c r q : ℕ) → a ≡ c → r ≡ q → ◌≡◌ {A = Seat} (record { status = s.status; plan = s.plan; account = a; collector = s.collector; charge = s.charge; out = s.out; elapsed = s.elapsed; runs = r }) (record { status = s.status; plan = s.plan; account = c; collector = s.collector; charge = s.charge; out = s.out; elapsed = s.elapsed; runs = q })
-with_account s a c r q p o = λ i. record { status = s.status; plan = s.plan; account = p i; collector = s.collector; charge = s.charge; out = s.out; elapsed = s.elapsed; runs = o i }
-
 pub no_runs : (α : ℕ) (s : Seat) → s ≡ ran_times α 0 s
-no_runs α s = with_account s s.account (s.account + α * 0) s.runs (s.runs + 0) (omega (arith, mul-zero α)) (omega arith)
+no_runs α s = search rules
 
 pub one_more_run : (α n : ℕ) (s : Seat) → ran α (ran_times α n s) ≡ ran_times α (n + 1) s
-one_more_run α n s =
-    let more = mul-add α n 1 in
-    let one = mul-one α in
-    with_account s (s.account + α * n + α) (s.account + α * (n + 1)) (s.runs + n + 1) (s.runs + (n + 1)) (omega arith) (omega arith)
+one_more_run α n s = search rules
 
 -- its clock, the runs that are due then, and the end of its meta-period: a tick
 pub passed_used : (α : ℕ) (s : Seat) → in_use s ≡ true → turned (ran_times α (due (one_later s) - s.runs) (one_later s)) ≡ passed α s
-passed_used α s used = sym (cond-true (in_use s) (turned (served α s)) s used)
+passed_used α s used = search rules
 
 pub passed_unused : (α : ℕ) (s : Seat) → in_use s ≡ false → passed α s ≡ s
-passed_unused α s empty = cond-false (in_use s) (turned (served α s)) s empty
+passed_unused α s empty = search rules
 
 -- ---- the seats
 
@@ -72,7 +65,7 @@ module _ (α i : ℕ) (xs : List Seat) (there : i < length xs) where
   none_yet = ap (set xs i) (no_runs α (one_later (get_or xs i nobody)))
 
   pub seat_after_runs : (n : ℕ) → get_or (after_runs n) i nobody ≡ ran_times α n (one_later (get_or xs i nobody))
-  seat_after_runs n = get_or-set_same xs i (ran_times α n (one_later (get_or xs i nobody))) nobody there
+  seat_after_runs n = search rules
 
   pub one_run_on : (n : ℕ) → set (after_runs n) i (ran α (get_or (after_runs n) i nobody)) ≡ after_runs (n + 1)
   one_run_on n =

@@ -27,8 +27,8 @@ impl Ledger {
         }
         let plan = self.plan_for(job)?;
         let share = self.frame.collector_share();
-        let pool = self.pool - (plan.writes + share);
-        self.put_with(seat, Seat::admitted(plan, share), pool);
+        self.pool -= plan.writes + share;
+        self.seats[usize::from(seat)] = Seat::admitted(plan, share);
         Ok(plan)
     }
 

@@ -14,8 +14,14 @@ impl Ledger {
         ensures books { let before = books_of self.old in books_of self.new ≡ unless (asks_notice before seat) (noticed before seat) before }
         ensures law { Keeps (books_of self.old) (books_of self.new) }
     {
-        let found = self.done(seat)?;
-        self.put(seat, found.warned());
+        let found = self.find(seat)?;
+        if !found.serves() {
+            return Err(Refusal::SeatNotServing);
+        }
+        if found.out != 0 {
+            return Err(Refusal::PermitsOut);
+        }
+        self.seats[usize::from(seat)] = found.warned();
         Ok(())
     }
 
@@ -25,8 +31,14 @@ impl Ledger {
         ensures books { let before = books_of self.old in books_of self.new ≡ unless (asks_take before seat) (taken before seat) before }
         ensures law { Keeps (books_of self.old) (books_of self.new) }
     {
-        let found = self.entitled(seat)?;
-        self.put(seat, found.took());
+        let found = self.find(seat)?;
+        if !found.serves() {
+            return Err(Refusal::SeatNotServing);
+        }
+        if found.charge >= found.plan.writes {
+            return Err(Refusal::AllCharged);
+        }
+        self.seats[usize::from(seat)] = found.took();
         Ok(())
     }
 
@@ -37,7 +49,7 @@ impl Ledger {
         ensures law { Keeps (books_of self.old) (books_of self.new) }
     {
         let found = self.holder(seat)?;
-        self.put(seat, found.gave_back());
+        self.seats[usize::from(seat)] = found.gave_back();
         Ok(())
     }
 
@@ -55,7 +67,7 @@ impl Ledger {
         ensures law { MatchResult result (λ _. Spends (books_of self.old) (books_of self.new)) (λ _. Keeps (books_of self.old) (books_of self.new)) }
     {
         let found = self.holder(seat)?;
-        self.put(seat, found.saved());
+        self.seats[usize::from(seat)] = found.saved();
         Ok(())
     }
 

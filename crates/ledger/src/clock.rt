@@ -1,13 +1,11 @@
 // A tick, in the parts that a store makes of it: the clock of a seat, its runs, and the end of its meta-period.
-ghost use Rattle.std.specs.Prelude.{◌≡◌, ◌+◌, ◌<◌, ◌≤◌, if◌then◌else◌};
-ghost use Rattle.ledger.specs.Books.{tokens, collector_share, used_seat, leaves, ended};
-ghost use Rattle.ledger.specs.Fair.{Found};
+ghost use Rattle.std.specs.Prelude.{◌≡◌, ◌+◌, ◌<◌, ◌≤◌};
+ghost use Rattle.ledger.specs.Books.{tokens, used_seat, ended};
 ghost use Rattle.ledger.specs.Of.{books_of};
 ghost use Rattle.ledger.specs.Settled.{Below, Settled, SettledBut};
 ghost use Rattle.ledger.specs.Steps.{stepped, owes, made_one};
 
 use crate::ledger::Ledger;
-use crate::seat::Seat;
 
 impl Ledger {
     // One tick more for a seat in use. Says whether the seat is in use.
@@ -21,7 +19,7 @@ impl Ledger {
             return false;
         };
         if found.elapsed < found.plan.meta_period {
-            self.put(seat, found.one_later());
+            self.seats[usize::from(seat)] = found.one_later();
         }
         true
     }
@@ -36,7 +34,7 @@ impl Ledger {
             return;
         };
         if found.runs < found.due() {
-            self.put(seat, found.ran(self.frame.alpha));
+            self.seats[usize::from(seat)] = found.ran(self.frame.alpha);
         }
     }
 
@@ -50,12 +48,13 @@ impl Ledger {
         let Ok(found) = self.find(seat) else {
             return;
         };
-        let pool = if found.leaves() {
-            self.pool + (found.plan.writes + self.frame.collector_share())
+        let back = if found.leaves() {
+            found.plan.writes + self.frame.collector_share()
         } else {
-            self.pool
+            0
         };
-        self.put_with(seat, found.turned(), pool);
+        self.pool += back;
+        self.seats[usize::from(seat)] = found.turned();
     }
 
     // How many runs the seat still owes for the ticks that have passed. While it owes one, and the other seats are

@@ -20,24 +20,20 @@ use crate::seat::{Seat, Status};
 use plan::Plan;
 
 impl Seat {
-    pub(crate) fn vacant() -> Seat
-        ensures { result ≡ nobody }
-    {
-        Seat {
-            status: Status::Empty,
-            plan: Plan {
-                meta_period: 0,
-                writes: 0,
-                runs: 0,
-            },
-            account: 0,
-            collector: 0,
-            charge: 0,
-            out: 0,
-            elapsed: 0,
+    pub(crate) const VACANT: Seat = Seat {
+        status: Status::Empty,
+        plan: Plan {
+            meta_period: 0,
+            writes: 0,
             runs: 0,
-        }
-    }
+        },
+        account: 0,
+        collector: 0,
+        charge: 0,
+        out: 0,
+        elapsed: 0,
+        runs: 0,
+    };
 
     pub(crate) fn admitted(plan: Plan, collector: u32) -> Seat
         ensures { result ≡ seated plan collector }
@@ -47,7 +43,7 @@ impl Seat {
             plan,
             account: plan.writes,
             collector,
-            ..Seat::vacant()
+            ..Seat::VACANT
         }
     }
 
@@ -158,7 +154,7 @@ impl Seat {
                 runs: 0,
                 ..self
             },
-            Status::OnNotice => Seat::vacant(),
+            Status::OnNotice => Seat::VACANT,
         }
     }
 }

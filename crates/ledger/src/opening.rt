@@ -36,12 +36,13 @@ impl Ledger {
         })
     }
 
+    // The books for a frame that stands.
     fn fresh(frame: Frame) -> Ledger
         requires { stands frame ≡ true }
         ensures { books_of result ≡ opened frame }
     {
         Ledger {
-            seats: [Seat::vacant(); SEATS],
+            seats: [Seat::VACANT; SEATS],
             pool: frame.pool,
             spare: frame.allowance,
             frame,

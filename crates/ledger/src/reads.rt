@@ -22,7 +22,7 @@ impl Ledger {
         self.seats
             .get(usize::from(seat))
             .copied()
-            .unwrap_or(Seat::vacant())
+            .unwrap_or(Seat::VACANT)
     }
 
     pub fn in_use(&self, seat: u8) -> bool

@@ -1,6 +1,6 @@
 // Sums over the books.
 ghost use Rattle.std.specs.Prelude.{◌≡◌, ◌*◌, ◌≤◌};
-ghost use Rattle.ledger.specs.Books.{extra, held, highest, tokens};
+ghost use Rattle.ledger.specs.Books.{extra, held, highest};
 ghost use Rattle.ledger.specs.Of.{books_of};
 
 use crate::ledger::Ledger;
@@ -14,6 +14,7 @@ impl Ledger {
         self.frame.pool + self.frame.allowance + self.extra()
     }
 
+    // The tokens of the seats and of their collectors.
     pub(crate) fn held(&self) -> u32
         ensures sum { result ≡ held self.now.seats }
         ensures bound { result ≤ 8 * 33824 }
@@ -25,6 +26,7 @@ impl Ledger {
         sum
     }
 
+    // What the runs of the seats, each but the last of its meta-period, can add to the tokens.
     fn extra(&self) -> u32
         ensures sum { result ≡ extra self.now.frame.alpha self.now.seats }
         ensures bound { result ≤ 8 * 32736 }

@@ -1,6 +1,5 @@
 use ledger::{Frame, Ledger, Refusal};
-use plan::Job;
-use std::test::Fail;
+use plan::{Job, Plan};
 
 // Four blocks of four pages, one failure allowed, five page numbers, a yield of two and a pool of four.
 const SMALL: Frame = Frame {
@@ -13,20 +12,9 @@ const SMALL: Frame = Frame {
     pool: 4,
 };
 
-// The number of a refusal, and 0 for a call that was accepted.
-fn number_of(answer: Result<(), Refusal>) -> u8 {
-    match answer {
-        Ok(()) => 0,
-        Err(refusal) => refusal.number(),
-    }
-}
-
-// The plan of an admission, or the number of its refusal.
-fn admitted(ledger: &mut Ledger, seat: u8, period: u32, writes: u32) -> (u32, u32, u32) {
-    match ledger.admit(seat, Job { period, writes }) {
-        Ok(plan) => (plan.meta_period, plan.writes, plan.runs),
-        Err(refusal) => (0, 0, u32::from(refusal.number())),
-    }
+// A job of so many writes in each period of so many ticks.
+fn job(period: u32, writes: u32) -> Job {
+    Job { period, writes }
 }
 
 // One tick; says whether a run was made.
@@ -45,21 +33,25 @@ fn tick(ledger: &mut Ledger) -> bool {
 }
 
 #[test]
-fn a_seat_spends_what_its_plan_allows(rt: HostRuntime) -> Result<(), Fail> {
-    let Some(mut ledger) = Ledger::opened(SMALL) else {
-        assert!(rt; false);
-        return Ok(());
-    };
+fn a_seat_spends_what_its_plan_allows(rt: HostRuntime) {
+    let mut ledger = Ledger::opened(SMALL).expect(&rt, "the frame stands");
     assert_eq!(rt; ledger.tokens(), 5);
-    assert_eq!(rt; admitted(&mut ledger, 8, 3, 1), (0, 0, 7));
-    assert_eq!(rt; admitted(&mut ledger, 0, 0, 1), (0, 0, 9));
-    assert_eq!(rt; admitted(&mut ledger, 0, 3, 3), (0, 0, 10));
-    assert_eq!(rt; admitted(&mut ledger, 0, 3, 1), (6, 2, 1));
-    assert_eq!(rt; admitted(&mut ledger, 0, 3, 1), (0, 0, 8));
-    assert_eq!(rt; number_of(ledger.take(0)), 0);
-    assert_eq!(rt; number_of(ledger.spend(0)), 0);
-    assert_eq!(rt; number_of(ledger.take(0)), 0);
-    assert_eq!(rt; number_of(ledger.take(0)), 14);
+    assert_eq!(rt; ledger.admit(8, job(3, 1)), Err(Refusal::NoSuchSeat));
+    assert_eq!(rt; ledger.admit(0, job(0, 1)), Err(Refusal::JobOutOfRange));
+    assert_eq!(rt; ledger.admit(0, job(3, 3)), Err(Refusal::PoolTooSmall));
+    assert_eq!(rt;
+        ledger.admit(0, job(3, 1)),
+        Ok(Plan {
+            meta_period: 6,
+            writes: 2,
+            runs: 1
+        })
+    );
+    assert_eq!(rt; ledger.admit(0, job(3, 1)), Err(Refusal::SeatInUse));
+    assert_eq!(rt; ledger.take(0), Ok(()));
+    assert_eq!(rt; ledger.spend(0), Ok(()));
+    assert_eq!(rt; ledger.take(0), Ok(()));
+    assert_eq!(rt; ledger.take(0), Err(Refusal::AllCharged));
     ledger.pay();
     assert_eq!(rt; ledger.tokens(), 3);
     for ran in [false, false, false, false, false, true] {
@@ -68,27 +60,29 @@ fn a_seat_spends_what_its_plan_allows(rt: HostRuntime) -> Result<(), Fail> {
     let seat = ledger.seat(0);
     assert_eq!(rt; (seat.account, seat.charge, seat.out), (2, 1, 1));
     assert_eq!(rt; ledger.tokens(), 4);
-    Ok(())
 }
 
 #[test]
-fn a_seat_under_notice_gives_its_share_back(rt: HostRuntime) -> Result<(), Fail> {
-    let Some(mut ledger) = Ledger::opened(SMALL) else {
-        assert!(rt; false);
-        return Ok(());
-    };
-    assert_eq!(rt; admitted(&mut ledger, 7, 1, 2), (1, 2, 1));
-    assert_eq!(rt; number_of(ledger.take(7)), 0);
-    assert_eq!(rt; number_of(ledger.notice(7)), 15);
-    assert_eq!(rt; number_of(ledger.hand_back(7)), 0);
-    assert_eq!(rt; number_of(ledger.may_spend(7)), 16);
-    assert_eq!(rt; number_of(ledger.notice(7)), 0);
-    assert_eq!(rt; number_of(ledger.take(7)), 13);
+fn a_seat_under_notice_gives_its_share_back(rt: HostRuntime) {
+    let mut ledger = Ledger::opened(SMALL).expect(&rt, "the frame stands");
+    assert_eq!(rt;
+        ledger.admit(7, job(1, 2)),
+        Ok(Plan {
+            meta_period: 1,
+            writes: 2,
+            runs: 1
+        })
+    );
+    assert_eq!(rt; ledger.take(7), Ok(()));
+    assert_eq!(rt; ledger.notice(7), Err(Refusal::PermitsOut));
+    assert_eq!(rt; ledger.hand_back(7), Ok(()));
+    assert_eq!(rt; ledger.may_spend(7), Err(Refusal::NoPermitOut));
+    assert_eq!(rt; ledger.notice(7), Ok(()));
+    assert_eq!(rt; ledger.take(7), Err(Refusal::SeatNotServing));
     assert!(rt; tick(&mut ledger));
     assert!(rt; !ledger.in_use(7));
-    assert_eq!(rt; number_of(ledger.take(7)), 12);
+    assert_eq!(rt; ledger.take(7), Err(Refusal::SeatNotInUse));
     assert_eq!(rt; ledger.tokens(), 5);
-    Ok(())
 }
 
 #[test]
@@ -110,4 +104,22 @@ fn a_frame_past_its_limits_opens_nothing(rt: HostRuntime) {
         assert!(rt; Ledger::opened(frame).is_none());
     }
     assert_eq!(rt; Ledger::idle().tokens(), 0);
+}
+
+#[test]
+fn the_refusals_have_their_numbers(rt: HostRuntime) {
+    let table: [(Refusal, u8); 9] = [
+        (Refusal::NoSuchSeat, 7),
+        (Refusal::SeatInUse, 8),
+        (Refusal::JobOutOfRange, 9),
+        (Refusal::PoolTooSmall, 10),
+        (Refusal::SeatNotInUse, 12),
+        (Refusal::SeatNotServing, 13),
+        (Refusal::AllCharged, 14),
+        (Refusal::PermitsOut, 15),
+        (Refusal::NoPermitOut, 16),
+    ];
+    for (refusal, number) in table {
+        assert_eq!(rt; refusal.number(), number);
+    }
 }

@@ -1,21 +1,19 @@
 use Rattle.std.proofs.Common.{rules}
 use Rattle.ledger.proofs.Puts.{put_as, one_later_put}
+use Rattle.ledger.specs.Books.{with_seat}
 use Rattle.ledger.specs.Of.{books_of}
 use Rattle.ledger.proofs.Facts.{fair_of}
 use Rattle.ledger.proofs.Kept.{step_keeps, step_unsettles}
 use Rattle.ledger.proofs.ledger.Ledger.enter.Goals as goal
 
-pub put-requires : goal.put-requires
-put-requires c =
+pub invariant_of-self : goal.invariant_of-self
+invariant_of-self c =
     let l = c.args.self.now in
     let found = c.in-Ok.ensures.found in
-    record {
-      within = found.there;
-      fair = put_as l found c.one_later.ensures (one_later_put l found c.if-found.true);
-    }
+    record { fair = ∣ put_as l found c.from.ensures c.one_later.ensures (one_later_put l found c.if-found.true) ∣₁ }
 
 pub returns-then-found-clause-tokens : goal.returns-then-found-clause-tokens
-returns-then-found-clause-tokens c = step_keeps {c = books_of c.put.new.self} (fair_of c.args.self.now) c.args.seat (search rules)
+returns-then-found-clause-tokens c = step_keeps {c = with_seat (books_of c.args.self.now) c.from.result c.one_later.result} (fair_of c.args.self.now) c.args.seat (search rules)
 
 pub returns-then-found-clause-settled : goal.returns-then-found-clause-settled
-returns-then-found-clause-settled c = step_unsettles {c = books_of c.put.new.self} (fair_of c.args.self.now) c.args.seat (search rules)
+returns-then-found-clause-settled c = step_unsettles {c = with_seat (books_of c.args.self.now) c.from.result c.one_later.result} (fair_of c.args.self.now) c.args.seat (search rules)

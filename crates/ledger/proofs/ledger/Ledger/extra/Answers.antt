@@ -1,30 +1,18 @@
-use Rattle.std.proofs.Common.{◌≡◌, ◌-◌, ◌*◌, ◌<◌, true, length, get_or, sym, ap, ◌∙◌, arith}
-use Rattle.std.proofs.lemmas.List.{take_all}
+use Rattle.std.proofs.Common.{◌≡◌, ◌-◌, ◌*◌, ◌<◌, true, length, get_or, sym, arith}
+use Rattle.std.proofs.lemmas.Grind.{common_steps}
 use Rattle.std.proofs.lemmas.Bool.{cond-true, cond-false}
-use Rattle.ledger.specs.Books.{extra}
-use Rattle.ledger.specs.Fair.{JobFair}
 use Rattle.ledger.specs.Seats.{nobody, in_use}
 use Rattle.ledger.proofs.Bounds.{job_adds_few}
 use Rattle.ledger.proofs.Facts.{fair_of}
-use Rattle.ledger.proofs.Jobs.{some_run}
 use Rattle.ledger.proofs.Sums.{extra_more}
 use Rattle.ledger.proofs.ledger.Ledger.extra.Goals as goal
 use Rattle.ledger.proofs.ledger.Ledger.extra.Goals.{then-is_in_use, else-is_in_use}
 
-job : (c : goal.Then-is_in_use) → JobFair c.args.self.now.frame (get_or c.args.self.now.seats c.loop-seat.seat-index nobody)
-job c = ((fair_of c.args.self.now).each c.loop-seat.seat-index c.loop-seat-test.true).used (sym c.if-is_in_use.ensures)
-
-pub overflow_sub-sum : goal.overflow_sub-sum
-overflow_sub-sum c = some_run (job c)
-
 pub overflow_mul-sum : goal.overflow_mul-sum
-overflow_mul-sum c = let few = job_adds_few (fair_of c.args.self.now) (get_or c.args.self.now.seats c.loop-seat.seat-index nobody) (job c) in omega arith
+overflow_mul-sum c = let b = fair_of c.args.self.now in grind (arith, common_steps, job_adds_few)
 
 pub overflow_add-sum : goal.overflow_add-sum
-overflow_add-sum c =
-    let few = job_adds_few (fair_of c.args.self.now) (get_or c.args.self.now.seats c.loop-seat.seat-index nobody) (job c) in
-    let so_far = c.loop-seat.invariant.1 in
-    omega arith
+overflow_add-sum c = let b = fair_of c.args.self.now in grind (arith, common_steps, job_adds_few)
 
 pub loop-seat-preserved : goal.loop-seat-preserved
 loop-seat-preserved c =
@@ -50,11 +38,3 @@ loop-seat-preserved c =
           (omega arith, omega arith)
           )
     ]
-
-pub returns : goal.returns
-returns c =
-    let l = c.args.self.now in
-    let b = fair_of l in
-    let all = ap (extra l.frame.alpha) (take_all c.loop-seat.seat-index l.seats (omega (arith, b.eight))) in
-    let bound = c.loop-seat.invariant.1 in
-    record { sum = c.loop-seat.invariant.0 ∙ all; bound = omega arith }

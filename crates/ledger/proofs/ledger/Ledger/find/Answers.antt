@@ -1,10 +1,7 @@
-use Rattle.std.proofs.Common.{rules}
-use Rattle.ledger.specs.Of.{books_of}
-use Rattle.ledger.proofs.Answered.{found_in}
+use Rattle.std.proofs.Common.{arith}
+use Rattle.std.proofs.lemmas.Grind.{common_steps}
 use Rattle.ledger.proofs.Facts.{fair_of}
 use Rattle.ledger.proofs.ledger.Ledger.find.Goals as goal
 
 pub returns-clause-found : goal.returns-clause-found
-returns-clause-found c =
-    let l = c.args.self.now in
-    found_in (books_of l) c.args.seat (fair_of l) c.ok_or.result (search rules)
+returns-clause-found c = let b = fair_of c.args.self.now in grind (arith, common_steps)

@@ -1,5 +1,5 @@
-use Rattle.ledger.proofs.Opens.{opens}
+use Rattle.std.proofs.Common.{rules}
 use Rattle.ledger.proofs.ledger.Ledger.fresh.Goals as goal
 
 pub invariant_of-result : goal.invariant_of-result
-invariant_of-result c = record { fair = ∣ opens c.args.frame c.vacant.result c.vacant.ensures c.requires ∣₁ }
+invariant_of-result c = record { fair = ∣ search rules ∣₁ }

@@ -1,6 +1,4 @@
-use Rattle.std.proofs.Common.{◌<◌, length, ap, ◌∙◌, arith}
-use Rattle.std.proofs.lemmas.List.{take_all}
-use Rattle.ledger.specs.Books.{held}
+use Rattle.std.proofs.Common.{◌<◌, length, arith}
 use Rattle.ledger.proofs.Bounds.{holds_few}
 use Rattle.ledger.proofs.Facts.{fair_of}
 use Rattle.ledger.proofs.Sums.{held_more}
@@ -29,11 +27,3 @@ loop-seat-preserved c =
     let so_far = c.loop-seat.invariant.0 in
     let bound = c.loop-seat.invariant.1 in
     (omega arith, omega arith)
-
-pub returns : goal.returns
-returns c =
-    let seats = c.args.self.now.seats in
-    let b = fair_of c.args.self.now in
-    let all = ap held (take_all c.loop-seat.seat-index seats (omega (arith, b.eight))) in
-    let bound = c.loop-seat.invariant.1 in
-    record { sum = c.loop-seat.invariant.0 ∙ all; bound = omega arith }

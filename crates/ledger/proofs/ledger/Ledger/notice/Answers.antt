@@ -4,14 +4,11 @@ use Rattle.ledger.proofs.Facts.{fair_of}
 use Rattle.ledger.proofs.Kept.{notice_keeps}
 use Rattle.ledger.proofs.ledger.Ledger.notice.Goals as goal
 
-pub put-requires : goal.put-requires
-put-requires c =
+pub invariant_of-self : goal.invariant_of-self
+invariant_of-self c =
     let l = c.args.self.now in
-    let told = c.in_ok-found.ensures in
-    record {
-      within = told.found.there;
-      fair = put_as l told.found c.warned.ensures (warned_put l told.found told.out);
-    }
+    let found = c.in_ok-found.ensures.found in
+    record { fair = ∣ put_as l found c.from.ensures c.warned.ensures (warned_put l found c.if-found-ne0.false) ∣₁ }
 
 pub returns-clause-law : goal.returns-clause-law
 returns-clause-law c = notice_keeps (fair_of c.args.self.now) c.args.seat (search rules)

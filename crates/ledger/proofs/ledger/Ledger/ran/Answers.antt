@@ -1,5 +1,6 @@
 use Rattle.std.proofs.Common.{rules, ◌<◌, ◌≤◌, mul-le-mul, arith}
 use Rattle.ledger.specs.Seats.{due}
+use Rattle.ledger.specs.Books.{with_seat}
 use Rattle.ledger.specs.Of.{books_of}
 use Rattle.ledger.proofs.Facts.{fair_of}
 use Rattle.ledger.proofs.Jobs.{account_within, due_within}
@@ -18,18 +19,15 @@ ran-requires c =
     let won = mul-le-mul small few in
     (omega (arith, j.writes_few, b.yields_within, b.small_blocks), omega (arith, j.runs_few))
 
-pub put-requires : goal.put-requires
-put-requires c =
+pub invariant_of-self : goal.invariant_of-self
+invariant_of-self c =
     let l = c.args.self.now in
     let found = c.in-Ok.ensures.found in
     let more : c.in-Ok.found.runs < due c.in-Ok.found = omega arith in
-    record {
-      within = found.there;
-      fair = put_as l found c.ran.ensures (ran_put l found more);
-    }
+    record { fair = ∣ put_as l found c.from.ensures c.ran.ensures (ran_put l found more) ∣₁ }
 
 pub returns-then-found-due-clause-tokens : goal.returns-then-found-due-clause-tokens
-returns-then-found-due-clause-tokens c = run_adds {c = books_of c.put.new.self} (fair_of c.args.self.now) c.args.seat (search rules)
+returns-then-found-due-clause-tokens c = run_adds {c = with_seat (books_of c.args.self.now) c.from.result c.ran.result} (fair_of c.args.self.now) c.args.seat (search rules)
 
 pub returns-then-found-due-clause-settled : goal.returns-then-found-due-clause-settled
-returns-then-found-due-clause-settled c = run_unsettles {c = books_of c.put.new.self} (fair_of c.args.self.now) c.args.seat (search rules)
+returns-then-found-due-clause-settled c = run_unsettles {c = with_seat (books_of c.args.self.now) c.from.result c.ran.result} (fair_of c.args.self.now) c.args.seat (search rules)

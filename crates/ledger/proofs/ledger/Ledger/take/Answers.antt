@@ -1,17 +1,15 @@
+use Rattle.std.proofs.Common.{sym}
 use Rattle.std.proofs.Common.{rules}
 use Rattle.ledger.proofs.Puts.{put_as, took_put}
 use Rattle.ledger.proofs.Facts.{fair_of}
 use Rattle.ledger.proofs.Kept.{take_keeps}
 use Rattle.ledger.proofs.ledger.Ledger.take.Goals as goal
 
-pub put-requires : goal.put-requires
-put-requires c =
+pub invariant_of-self : goal.invariant_of-self
+invariant_of-self c =
     let l = c.args.self.now in
-    let told = c.in_ok-found.ensures in
-    record {
-      within = told.found.there;
-      fair = put_as l told.found c.took.ensures (took_put l told.found told.serves told.room);
-    }
+    let found = c.in_ok-found.ensures.found in
+    record { fair = ∣ put_as l found c.from.ensures c.took.ensures (took_put l found (sym c.if-not-serves.ensures) c.if-found.false) ∣₁ }
 
 pub returns-clause-law : goal.returns-clause-law
 returns-clause-law c = take_keeps (fair_of c.args.self.now) c.args.seat (search rules)

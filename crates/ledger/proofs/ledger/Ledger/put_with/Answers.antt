@@ -1,4 +1,0 @@
-use Rattle.ledger.proofs.ledger.Ledger.put_with.Goals as goal
-
-pub invariant_of-self : goal.invariant_of-self
-invariant_of-self c = record { fair = ∣ c.requires.fair ∣₁ }
