@@ -2,15 +2,35 @@
 use chip::Flawed;
 use chooser::Greedy;
 use ledger::Refusal;
+use plan::Job;
 use store::{Store, Ticked};
+
+// What stands in the gym: a store over a flawed chip.
+pub(crate) type Console<'a> = Store<Flawed<'a>, Greedy>;
 
 // The seats of the two jobs.
 pub(crate) const ROWER: u8 = 0;
 
 pub(crate) const RANKING: u8 = 1;
 
+// The jobs, and one that comes too late.
+pub(crate) const SPLITS: Job = Job {
+    period: 4,
+    writes: 2,
+};
+
+pub(crate) const TABLE: Job = Job {
+    period: 6,
+    writes: 3,
+};
+
+pub(crate) const GUEST: Job = Job {
+    period: 10,
+    writes: 1,
+};
+
 // What was done in an evening, summed up.
-#[derive(Clone, Copy)]
+#[derive(Clone, Copy, Default)]
 pub(crate) struct Totals {
     pub(crate) saves: u32,
     pub(crate) tries: u32,
@@ -55,7 +75,7 @@ impl Totals {
 
 // Saves one page of a job: a permit is taken and spent.
 pub(crate) fn record(
-    store: &mut Store<Flawed<'_>, Greedy>,
+    store: &mut Console<'_>,
     seat: u8,
     number: u16,
     bytes: &[u8],
@@ -67,7 +87,7 @@ pub(crate) fn record(
 // One tick, and what the jobs save after it: at each second tick a split, and in between the ranking. The first
 // page of the ranking's job is the club record, which is then saved no more: when its block is emptied, the
 // collector copies it.
-fn minute(store: &mut Store<Flawed<'_>, Greedy>, at: u8, day: Totals) -> Totals {
+fn minute(store: &mut Console<'_>, at: u8, day: Totals) -> Totals {
     let day = day.ticked(store.tick());
     if at % 2 == 0 {
         return day.saved(record(store, ROWER, u16::from(at / 2 % 2), &[at, 240]));
@@ -77,16 +97,8 @@ fn minute(store: &mut Store<Flawed<'_>, Greedy>, at: u8, day: Totals) -> Totals 
 }
 
 // Forty ticks.
-pub(crate) fn whole(store: &mut Store<Flawed<'_>, Greedy>) -> Totals {
-    let mut day = Totals {
-        saves: 0,
-        tries: 0,
-        refused: 0,
-        runs: 0,
-        recycles: 0,
-        copies: 0,
-        copy_tries: 0,
-    };
+pub(crate) fn whole(store: &mut Console<'_>) -> Totals {
+    let mut day = Totals::default();
     for at in 1..=40u8 {
         day = minute(store, at, day);
     }

@@ -1,66 +1,100 @@
 // What the program says of an answer.
-use chip::Flawed;
-use chooser::Greedy;
+use crate::evening::{Console, Totals};
 use ledger::Refusal;
 use plan::Plan;
-use std::io;
-use store::Store;
+use std::{fmt, io};
 
-fn say_refusal(rt: &HostRuntime, what: &str, refusal: Refusal) -> io::Result<()> {
-    let number = refusal.number();
-    println!(rt; "{what}: refused with {number}")
+// What was done, where nothing was refused.
+#[derive(Clone, Copy)]
+pub(crate) enum Deed {
+    Done,
+    Admitted(Plan),
+    Saved(u32),
+    Read(Front, usize),
 }
 
-pub(crate) fn say_done(
-    rt: &HostRuntime,
-    what: &str,
-    answer: Result<(), Refusal>,
-) -> io::Result<()> {
-    match answer {
-        Ok(()) => println!(rt; "{what}: done"),
-        Err(refusal) => say_refusal(rt, what, refusal),
+// The first two bytes of a page.
+pub(crate) type Front = [u8; 2];
+
+impl From<()> for Deed {
+    fn from(_: ()) -> Deed {
+        Deed::Done
     }
 }
 
-pub(crate) fn say_plan(
-    rt: &HostRuntime,
-    what: &str,
-    answer: Result<Plan, Refusal>,
-) -> io::Result<()> {
-    match answer {
-        Ok(plan) => {
-            let (ticks, writes, runs) = plan.numbers();
-            println!(rt; "{what}: saves {writes}, collector runs {runs}, in each {ticks} ticks")
+impl From<Plan> for Deed {
+    fn from(plan: Plan) -> Deed {
+        Deed::Admitted(plan)
+    }
+}
+
+// A save answers its tries.
+impl From<u32> for Deed {
+    fn from(tries: u32) -> Deed {
+        Deed::Saved(tries)
+    }
+}
+
+impl fmt::Display for Deed {
+    fn fmt<W: fmt::Write>(&self, f: &mut fmt::Formatter<W>) -> fmt::Result {
+        match self {
+            Deed::Done => f.write_str("done"),
+            Deed::Admitted(plan) => {
+                let (ticks, writes, runs) = plan.numbers();
+                write!(
+                    f,
+                    "saves {writes}, collector runs {runs}, in each {ticks} ticks"
+                )
+            }
+            Deed::Saved(tries) => write!(f, "saved, tries {tries}"),
+            Deed::Read([first, second], length) => {
+                write!(f, "{length} bytes read back, {first} {second}")
+            }
         }
-        Err(refusal) => say_refusal(rt, what, refusal),
     }
 }
 
-pub(crate) fn say_save(
+// What the jobs and the collector did between them.
+impl fmt::Display for Totals {
+    fn fmt<W: fmt::Write>(&self, f: &mut fmt::Formatter<W>) -> fmt::Result {
+        let Totals {
+            saves,
+            tries,
+            refused,
+            runs,
+            recycles,
+            copies,
+            copy_tries,
+        } = *self;
+        writeln!(
+            f,
+            "saves: {saves} stored in {tries} tries, {refused} refused"
+        )?;
+        writeln!(f, "collector: {runs} runs, {recycles} recycles")?;
+        write!(f, "collector: {copies} pages copied in {copy_tries} tries")
+    }
+}
+
+pub(crate) fn say<T: Into<Deed>>(
     rt: &HostRuntime,
     what: &str,
-    answer: Result<u32, Refusal>,
+    answer: Result<T, Refusal>,
 ) -> io::Result<()> {
     match answer {
-        Ok(tries) => println!(rt; "{what}: saved, tries {tries}"),
-        Err(refusal) => say_refusal(rt, what, refusal),
+        Ok(done) => {
+            let deed = done.into();
+            println!(rt; "{what}: {deed}")
+        }
+        Err(refusal) => {
+            let number = refusal.number();
+            println!(rt; "{what}: refused with {number}")
+        }
     }
 }
 
-// Reads a page number back, and says the first two bytes and how many are stored.
-pub(crate) fn say_bytes(
-    rt: &HostRuntime,
-    what: &str,
-    store: &mut Store<Flawed<'_>, Greedy>,
-    number: u16,
-) -> io::Result<()> {
+// Reads a page number back: its first two bytes, and how many are stored.
+pub(crate) fn read_back(store: &mut Console<'_>, number: u16) -> Result<Deed, Refusal> {
     let mut buffer = [0u8; 8];
-    match store.read(number, &mut buffer) {
-        Ok(length) => {
-            let first = buffer[0];
-            let second = buffer[1];
-            println!(rt; "{what}: {length} bytes read back, {first} {second}")
-        }
-        Err(refusal) => say_refusal(rt, what, refusal),
-    }
+    let length = store.read(number, &mut buffer)?;
+    Ok(Deed::Read([buffer[0], buffer[1]], length))
 }

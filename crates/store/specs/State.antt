@@ -12,7 +12,7 @@
 use Rattle.std.specs.Prelude.{◌≡◌, ℕ, ◌-◌, ◌<◌, ◌≤◌, Bool, List, length, replicate, Some, None, Option, MatchBool, refl}
 use Rattle.std.specs.Option.{is_some}
 use Rattle.std.specs.Coded.{Unit-prop}
-use Rattle.std.proofs.Common.{arith, sym, ◌∙◌}
+use Rattle.std.proofs.Common.{rules, arith, sym, ◌∙◌}
 use Rattle.std.proofs.Props.{props}
 use mathlib.Core.HLevel.{is_prop→PathP}
 use Rattle.chip.specs.Meaning.{Page, written, Meaning}
@@ -20,7 +20,6 @@ use Rattle.ledger.specs.declared.frame.Frame.{Frame}
 use Rattle.ledger.specs.declared.ledger.Ledger.{Ledger}
 use Rattle.ledger.specs.Seats.{nobody}
 use Rattle.ledger.specs.Fair.{idle}
-use Rattle.ledger.proofs.Opens.{opens}
 use Rattle.ledger.specs.Books.{Books, seat_of, tokens}
 use Rattle.ledger.specs.Of.{books_of}
 use Rattle.ledger.specs.Settled.{Settled}
@@ -66,7 +65,7 @@ pub record Standing (H : Type 0) : Type 0 where
   pub tables : Tables
 
 pub no_ledger : Ledger
-no_ledger = record { seats = replicate 8 nobody; pool = 0; spare = 0; frame = idle; fair = ∣ opens idle nobody refl refl ∣₁ }
+no_ledger = record { seats = replicate 8 nobody; pool = 0; spare = 0; frame = idle; fair = ∣ search rules ∣₁ }
 
 pub no_tables : Tables
 no_tables =

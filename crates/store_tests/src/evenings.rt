@@ -1,11 +1,12 @@
 // Evenings of two jobs: a rower's splits and a club ranking. What is counted was worked out by another program.
-use chip::{Chip, Flawed, Pair, Plain};
+use chip::{Chip, Flawed, Pair, Plain, Size};
 use chooser::{Chooser, Greedy, Hand};
 use ledger::Refusal;
+use plan::Job;
 use store::Store;
 
 // Saves and their tries, then what the ticks did: runs, recycles, copies and their tries.
-#[derive(Clone, Copy, PartialEq, Eq, Debug)]
+#[derive(Clone, Copy, PartialEq, Eq, Debug, Default)]
 struct Counts {
     saves: u32,
     tries: u32,
@@ -15,30 +16,31 @@ struct Counts {
     copy_tries: u32,
 }
 
-const NOTHING: Counts = Counts {
-    saves: 0,
-    tries: 0,
-    runs: 0,
-    recycles: 0,
-    copies: 0,
-    copy_tries: 0,
-};
+impl From<Counts> for [u32; 6] {
+    fn from(counts: Counts) -> [u32; 6] {
+        let Counts {
+            saves,
+            tries,
+            runs,
+            recycles,
+            copies,
+            copy_tries,
+        } = counts;
+        [saves, tries, runs, recycles, copies, copy_tries]
+    }
+}
 
 // Is this byte stored under a page number, and no other?
 fn holds<C: Chip, H: Chooser>(store: &mut Store<C, H>, number: u16, byte: u8) -> bool {
     let mut buffer = [0u8; 8];
-    match store.read(number, &mut buffer) {
-        Ok(length) => length == 1 && buffer[0] == byte,
-        Err(_) => false,
-    }
+    store.read(number, &mut buffer) == Ok(1) && buffer[0] == byte
 }
 
 // Takes a permit, saves a byte with it and reads it back; answers the tries, and 0 where it is not to be had.
 fn record<C: Chip, H: Chooser>(store: &mut Store<C, H>, seat: u8, number: u16, byte: u8) -> u32 {
-    let answer = match store.take(seat) {
-        Ok(permit) => store.save(permit, number, &[byte]),
-        Err(refusal) => Err(refusal),
-    };
+    let answer = store
+        .take(seat)
+        .and_then(|permit| store.save(permit, number, &[byte]));
     match answer {
         Ok(tries) if holds(store, number, byte) => tries,
         _ => 0,
@@ -68,34 +70,48 @@ fn minute<C: Chip, H: Chooser>(store: &mut Store<C, H>, at: u8, so_far: Counts) 
 
 fn admitted<C: Chip, H: Chooser>(store: &mut Store<C, H>) -> Result<(), Refusal> {
     store.open(4, 2, 17)?;
-    store.admit(0, 4, 2)?;
-    store.admit(1, 6, 3)?;
+    store.admit(
+        0,
+        Job {
+            period: 4,
+            writes: 2,
+        },
+    )?;
+    store.admit(
+        1,
+        Job {
+            period: 6,
+            writes: 3,
+        },
+    )?;
     Ok(())
 }
 
 // A store over this chip and this chooser, opened, with both jobs for so many ticks.
 fn evening<C: Chip + Drop, H: Chooser + Drop>(chip: C, chooser: H, ticks: u8) -> [u32; 6] {
     let mut store = Store::new(chip, chooser);
-    let mut counts = NOTHING;
+    let mut counts = Counts::default();
     if admitted(&mut store).is_ok() {
         for at in 0..ticks {
             counts = minute(&mut store, at.saturating_add(1), counts);
         }
     }
-    [
-        counts.saves,
-        counts.tries,
-        counts.runs,
-        counts.recycles,
-        counts.copies,
-        counts.copy_tries,
-    ]
+    counts.into()
 }
 
-// An evening on a flawed chip of four blocks of eight pages.
+// So many blocks of eight pages of eight bytes.
+fn sized(blocks: u16) -> Size {
+    Size {
+        blocks,
+        pages_per_block: 8,
+        page_size: 8,
+    }
+}
+
+// An evening on a flawed chip of four blocks.
 fn flawed<H: Chooser + Drop>(gaps: &[u16], chooser: H, ticks: u8) -> [u32; 6] {
     let mut memory = [0u8; 768];
-    evening(Flawed::new(&mut memory, 4, 8, 8, gaps), chooser, ticks)
+    evening(Flawed::new(&mut memory, sized(4), gaps), chooser, ticks)
 }
 
 // Failures on a save, on the last page of a block, three in a row, on a copy, and on a save and a copy.
@@ -122,8 +138,8 @@ fn two_plans_over_hundreds_of_ticks(rt: HostRuntime) {
 fn a_pair_of_chips_is_one_chip(rt: HostRuntime) {
     let mut front = [0u8; 384];
     let mut back = [0u8; 384];
-    let first = Flawed::new(&mut front, 2, 8, 8, &[2, 15]);
-    let second = Plain::new(&mut back, 2, 8, 8);
+    let first = Flawed::new(&mut front, sized(2), &[2, 15]);
+    let second = Plain::new(&mut back, sized(2));
     assert_eq!(rt;
         evening(Pair::new(first, second), Hand::new(), 40),
         [40, 42, 23, 4, 3, 3]

@@ -1,50 +1,62 @@
 // Every refusal, by its number.
-use chip::{Flawed, Plain};
+use chip::{Flawed, Plain, Size};
 use chooser::Greedy;
 use ledger::Refusal;
+use plan::Job;
 use store::Store;
 
 // The number of a refusal, and 0 for a call that was accepted.
 fn number_of<T: Drop>(answer: Result<T, Refusal>) -> u8 {
-    match answer {
-        Ok(_) => 0,
-        Err(refusal) => refusal.number(),
+    answer.err().map_or(0, Refusal::number)
+}
+
+// So many blocks of so many pages of eight bytes.
+fn sized(blocks: u16, pages_per_block: u16) -> Size {
+    Size {
+        blocks,
+        pages_per_block,
+        page_size: 8,
     }
 }
 
 // A chip of four blocks of four pages of eight bytes, not yet opened.
 fn shut(memory: &mut [u8]) -> Store<Plain<'_>, Greedy> {
-    Store::new(Plain::new(memory, 4, 4, 8), Greedy)
+    Store::new(Plain::new(memory, sized(4, 4)), Greedy)
 }
+
+// One page in two ticks.
+const SMALL: Job = Job {
+    period: 2,
+    writes: 1,
+};
 
 // The same, opened with two page numbers, a yield of one and a pool of 13. Seat 0 may write one page in two ticks.
 fn small(memory: &mut [u8]) -> Store<Plain<'_>, Greedy> {
     let mut store = shut(memory);
     let _ = store.open(2, 1, 13);
-    let _ = store.admit(0, 2, 1);
+    let _ = store.admit(0, SMALL);
     store
 }
 
 // Takes a permit and hands it back.
 fn taken(store: &mut Store<Plain<'_>, Greedy>, seat: u8) -> u8 {
-    match store.take(seat) {
-        Ok(permit) => number_of(store.hand_back(permit)),
-        Err(refusal) => refusal.number(),
-    }
+    number_of(store.take(seat).and_then(|permit| store.hand_back(permit)))
 }
 
 // Takes a permit and saves with it.
 fn saved(store: &mut Store<Plain<'_>, Greedy>, number: u16, bytes: &[u8]) -> u8 {
-    match store.take(0) {
-        Ok(permit) => number_of(store.save(permit, number, bytes)),
-        Err(refusal) => refusal.number(),
-    }
+    number_of(
+        store
+            .take(0)
+            .and_then(|permit| store.save(permit, number, bytes)),
+    )
 }
 
 // Opens a store over a chip of this many blocks and pages per block.
 fn opened(shape: (u16, u16), numbers: u32, alpha: u32, pool: u32) -> u8 {
     let mut memory = [0u8; 384];
-    let chip = Flawed::new(&mut memory, shape.0, shape.1, 8, &[3]);
+    let (blocks, pages_per_block) = shape;
+    let chip = Flawed::new(&mut memory, sized(blocks, pages_per_block), &[3]);
     let mut store = Store::new(chip, Greedy);
     number_of(store.open(numbers, alpha, pool))
 }
@@ -66,7 +78,7 @@ fn openings(rt: HostRuntime) {
 fn a_shut_store(rt: HostRuntime) {
     let mut memory = [0u8; 384];
     let mut store = shut(&mut memory);
-    assert_eq!(rt; number_of(store.admit(0, 2, 1)), 6);
+    assert_eq!(rt; number_of(store.admit(0, SMALL)), 6);
     assert_eq!(rt; number_of(store.notice(0)), 6);
     assert_eq!(rt; taken(&mut store, 0), 6);
     assert_eq!(rt; number_of(store.read(0, &mut [0; 8])), 6);
@@ -89,7 +101,10 @@ fn seats(rt: HostRuntime) {
         (1, 2, 2, 11),
     ];
     for (seat, period, writes, number) in table {
-        assert_eq!(rt; number_of(store.admit(seat, period, writes)), number);
+        assert_eq!(rt;
+            number_of(store.admit(seat, Job { period, writes })),
+            number
+        );
     }
     assert_eq!(rt; taken(&mut store, 1), 12);
     assert_eq!(rt; number_of(store.notice(8)), 12);
