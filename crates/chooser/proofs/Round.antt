@@ -1,14 +1,14 @@
 -- A search upwards, and again from 0 where it finds none, is a search round.
-use Rattle.std.proofs.Common.{◌≡◌, ℕ, ◌+◌, ◌-◌, ◌*◌, ◌%◌, ◌<◌, ◌≤◌, true, ltb, List, length, get_or, take, drop, is_some, Some, None, sum, sym, ap, ◌∙◌, subst, ⊎_elim, mod-eq_of_lt, arith, length-drop, ltb-false, ltb-true, lt-ltb}
+use Rattle.std.proofs.Common.{◌≡◌, ℕ, ◌+◌, ◌-◌, ◌*◌, ◌%◌, ◌<◌, ◌≤◌, ltb, List, length, get_or, take, drop, Bool, eqb, ◌++◌, Some, None, Option, MatchOption, sum, sym, ap, ◌∙◌, subst, ⊎_elim, mod-eq_of_lt, arith, length-drop, ltb-false, ltb-true, lt-ltb}
 use native.Mathlib.Nat.{add-mod_left}
 use Rattle.std.specs.List.{prefix_len}
 use Rattle.std.proofs.lemmas.List.{get_or_append_left, get_or-append_right, get_or-drop, get_or-take, length-take-le, take-append-drop}
-use Rattle.std.proofs.lemmas.List.Sums.{prefix_len-le-length}
-use Rattle.std.proofs.lemmas.Bool.{cases_lt, cond-true}
+use Rattle.std.proofs.lemmas.List.Sums.{prefix_len-le-length, prefix_len_passes}
+use Rattle.std.proofs.lemmas.List.Folds.{prefix_len-append}
+use Rattle.std.proofs.lemmas.Bool.{cases_lt, cond-true, cond-false, eq-eqb, ne_eqb}
 use Rattle.chooser.specs.Counts.{below_average, next_from, first_from}
 use Rattle.chooser.specs.Hand.{Passes, round, passed_over, first_round}
 use Rattle.chooser.specs.Law.{Yields}
-use Rattle.chooser.proofs.Fronts.{leading_passes, leading_within, leading_through}
 use Rattle.chooser.proofs.Reaching.{next_yields, some_reaches}
 use Rattle.chooser.proofs.Tested.{none_test, some_test}
 
@@ -26,10 +26,18 @@ found_none dead from is =
     ltb-false next (length dead) (none_test (ltb next (length dead)) next is)
 
 -- a search from 0 finds one always
-pub found_always : (dead : List ℕ) → 1 ≤ length dead → is_some (first_from dead 0) ≡ true
+found_always : (dead : List ℕ) → 1 ≤ length dead → first_from dead 0 ≡ Some (next_from dead 0)
 found_always dead some =
     let next = next_from dead 0 in
-    ap is_some (cond-true (ltb next (length dead)) (Some next) None (lt-ltb next (length dead) (some_reaches dead some)))
+    cond-true (ltb next (length dead)) (Some next) None (lt-ltb next (length dead) (some_reaches dead some))
+
+-- a front that ends within its list is one of the whole, and one that is its list goes on in what follows
+module _ (p : ℕ → Bool) (xs ys : List ℕ) where
+  leading_within : prefix_len p xs < length xs → prefix_len p (xs ++ ys) ≡ prefix_len p xs
+  leading_within short = prefix_len-append p xs ys ∙ cond-false (eqb (prefix_len p xs) (length xs)) _ _ (ne_eqb _ _ (λ same. omega arith))
+
+  leading_through : length xs ≤ prefix_len p xs → prefix_len p (xs ++ ys) ≡ length xs + prefix_len p ys
+  leading_through long = prefix_len-append p xs ys ∙ cond-true (eqb (prefix_len p xs) (length xs)) _ _ (eq-eqb _ _ (omega (arith, prefix_len-le-length p xs)))
 
 module _ (dead : List ℕ) (from : ℕ) (there : from < length dead) where
   -- found going up
@@ -60,15 +68,16 @@ module _ (dead : List ℕ) (from : ℕ) (there : from < length dead) where
   round_again none short =
       sym (ap (λ n. n % length dead) (over_again none short).0 ∙ add-mod_left (length dead) (next_from dead 0) ∙ mod-eq_of_lt short)
 
-  pub met_up : (block : ℕ) → Some block ≡ first_from dead from → (block ≡ first_round dead from) × Yields dead block
-  met_up block is =
+  -- found going up, or else from 0
+  pub round_found : (up found : Option ℕ) → 1 ≤ length dead → up ≡ first_from dead from → MatchOption up (found ≡ first_from dead 0) (λ block. found ≡ Some block) → (found ≡ Some (first_round dead from)) × Yields dead (first_round dead from)
+  round_found (Some block) found some is same =
       let one = found_one dead from block is in
-      (one.1 ∙ round_up one.0, subst (Yields dead) (sym one.1) (next_yields dead from one.0))
-
-  pub met_again : (block : ℕ) → None ≡ first_from dead from → Some block ≡ first_from dead 0 → (block ≡ first_round dead from) × Yields dead block
-  met_again block none is =
-      let one = found_one dead 0 block is in
-      (one.1 ∙ round_again (found_none dead from none) one.0, subst (Yields dead) (sym one.1) (next_yields dead 0 one.0))
+      let met = one.1 ∙ round_up one.0 in
+      (same ∙ ap Some met, subst (Yields dead) (sym one.1 ∙ met) (next_yields dead from one.0))
+  round_found None found some is again =
+      let short = some_reaches dead some in
+      let met = round_again (found_none dead from is) short in
+      (again ∙ found_always dead some ∙ ap Some met, subst (Yields dead) met (next_yields dead 0 short))
 
   -- one round suffices
   round_ends : 1 ≤ length dead → passed_over dead from < length dead
@@ -97,5 +106,5 @@ module _ (dead : List ℕ) (from : ℕ) (there : from < length dead) where
       let ends = round_ends some in
       record {
         ends = ends;
-        below = λ k early. ltb-true (get_or dead ((from + k) % length dead) 0 * length dead) (sum dead) (let met = met_after k (omega arith) in let low = leading_passes (below_average dead) (round dead from) k early in cc);
+        below = λ k early. ltb-true (get_or dead ((from + k) % length dead) 0 * length dead) (sum dead) (let met = met_after k (omega arith) in let low = prefix_len_passes (below_average dead) (round dead from) k 0 early in cc);
       }

@@ -15,10 +15,5 @@ pub(crate) fn first_from(dead: &[u8], from: usize, sum: u16) -> Option<usize>
     requires summed { sum ≡ all_dead dead.now }
     ensures { result ≡ first_from dead.now from }
 {
-    for (block, count) in dead.iter().enumerate() {
-        if block >= from && !below_average(*count, dead.len() as u8, sum) {
-            return Some(block);
-        }
-    }
-    None
+    (from..dead.len()).find(|block| !below_average(dead[*block], dead.len() as u8, sum))
 }

@@ -9,7 +9,7 @@ use crate::question::Question;
 
 // Goes upwards and round, so that every block has its turn, and names the first that has at least the average.
 // `next` is the block after the last answer, 0 before the first.
-#[derive(Clone, Copy)]
+#[derive(Clone, Copy, Default)]
 pub struct Hand {
     next: u16,
 }
@@ -19,7 +19,7 @@ impl Hand {
     pub fn new() -> Hand
         ensures { result.next ≡ 0 }
     {
-        Hand { next: 0 }
+        Hand::default()
     }
 }
 
@@ -34,7 +34,7 @@ impl Chooser for Hand {
         let Some(sum) = total(dead) else {
             return 0;
         };
-        let next = self.next as usize;
+        let next = usize::from(self.next);
         let from = if next < dead.len() { next } else { 0 };
         let block = first_round(dead, from, sum) as u16;
         self.next = block + 1;
@@ -51,8 +51,7 @@ fn first_round(dead: &[u8], from: usize, sum: u16) -> usize
     ensures passes { Passes dead.now from }
     ensures yields { Yields dead.now result }
 {
-    match first_from(dead, from, sum) {
-        Some(block) => block,
-        None => first_from(dead, 0, sum).unwrap(),
-    }
+    first_from(dead, from, sum)
+        .or_else(|| first_from(dead, 0, sum))
+        .unwrap()
 }
