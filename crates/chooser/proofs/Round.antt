@@ -1,5 +1,5 @@
 -- A search upwards, and again from 0 where it finds none, is a search round.
-use Rattle.std.proofs.Common.{◌≡◌, ℕ, ◌+◌, ◌-◌, ◌*◌, ◌%◌, ◌<◌, ◌≤◌, ltb, List, length, get_or, take, drop, Bool, eqb, ◌++◌, Some, None, Option, MatchOption, sum, sym, ap, ◌∙◌, subst, ⊎_elim, mod-eq_of_lt, arith, length-drop, ltb-false, ltb-true, lt-ltb}
+use Rattle.std.proofs.Common.{◌≡◌, ℕ, ◌+◌, ◌-◌, ◌*◌, ◌%◌, ◌<◌, ◌≤◌, ltb, List, length, get_or, take, drop, Bool, eqb, ◌++◌, Some, None, sum, sym, ap, ◌∙◌, subst, ⊎_elim, mod-eq_of_lt, arith, length-drop, ltb-false, ltb-true, lt-ltb}
 use native.Mathlib.Nat.{add-mod_left}
 use Rattle.std.specs.List.{prefix_len}
 use Rattle.std.proofs.lemmas.List.{get_or_append_left, get_or-append_right, get_or-drop, get_or-take, length-take-le, take-append-drop}
@@ -26,7 +26,7 @@ found_none dead from is =
     ltb-false next (length dead) (none_test (ltb next (length dead)) next is)
 
 -- a search from 0 finds one always
-found_always : (dead : List ℕ) → 1 ≤ length dead → first_from dead 0 ≡ Some (next_from dead 0)
+pub found_always : (dead : List ℕ) → 1 ≤ length dead → first_from dead 0 ≡ Some (next_from dead 0)
 found_always dead some =
     let next = next_from dead 0 in
     cond-true (ltb next (length dead)) (Some next) None (lt-ltb next (length dead) (some_reaches dead some))
@@ -68,16 +68,15 @@ module _ (dead : List ℕ) (from : ℕ) (there : from < length dead) where
   round_again none short =
       sym (ap (λ n. n % length dead) (over_again none short).0 ∙ add-mod_left (length dead) (next_from dead 0) ∙ mod-eq_of_lt short)
 
-  -- found going up, or else from 0
-  pub round_found : (up found : Option ℕ) → 1 ≤ length dead → up ≡ first_from dead from → MatchOption up (found ≡ first_from dead 0) (λ block. found ≡ Some block) → (found ≡ Some (first_round dead from)) × Yields dead (first_round dead from)
-  round_found (Some block) found some is same =
+  pub met_up : (block : ℕ) → Some block ≡ first_from dead from → (block ≡ first_round dead from) × Yields dead block
+  met_up block is =
       let one = found_one dead from block is in
-      let met = one.1 ∙ round_up one.0 in
-      (same ∙ ap Some met, subst (Yields dead) (sym one.1 ∙ met) (next_yields dead from one.0))
-  round_found None found some is again =
-      let short = some_reaches dead some in
-      let met = round_again (found_none dead from is) short in
-      (again ∙ found_always dead some ∙ ap Some met, subst (Yields dead) met (next_yields dead 0 short))
+      (one.1 ∙ round_up one.0, subst (Yields dead) (sym one.1) (next_yields dead from one.0))
+
+  pub met_again : (block : ℕ) → None ≡ first_from dead from → Some block ≡ first_from dead 0 → (block ≡ first_round dead from) × Yields dead block
+  met_again block none is =
+      let one = found_one dead 0 block is in
+      (one.1 ∙ round_again (found_none dead from none) one.0, subst (Yields dead) (sym one.1) (next_yields dead 0 one.0))
 
   -- one round suffices
   round_ends : 1 ≤ length dead → passed_over dead from < length dead

@@ -1,5 +1,5 @@
 -- What the yield law gives, and what gives it.
-use Rattle.std.proofs.Common.{◌≡◌, ℕ, ◌-◌, ◌<◌, ◌≤◌, true, List, length, get_or, MatchBool, sym, subst, mul_comm, lt_of_mul-lt-mul_right, arith}
+use Rattle.std.proofs.Common.{◌≡◌, ℕ, ◌-◌, ◌<◌, ◌≤◌, Bool, true, false, List, length, get_or, MatchBool, refl, subst, mul_comm, lt_of_mul-lt-mul_right, arith}
 use Rattle.std.proofs.ByRecursion.{All-from_get_or}
 use Rattle.std.proofs.ByRecursion.{sum_by_le}
 use Rattle.chooser.specs.Counts.{Fullest}
@@ -27,6 +27,10 @@ pub answer_worth : {S : Type 0} (dead : List ℕ) (before : S) (block : ℕ) (af
 answer_worth dead before block after asked answer =
     yields_worth dead block (answer_yields dead before block after asked answer)
 
-pub yields_answer : {S : Type 0} (dead : List ℕ) (before : S) (block : ℕ) (after : S) → askable dead ≡ true → Yields dead block → Answers dead before block after
-yields_answer dead before block after asked yields =
-    subst (λ b. MatchBool b (Yields dead block) ((block ≡ 0) × (after ≡ before))) (sym asked) yields
+-- a chooser that names a block with the most dead pages, or 0 on a list that it need not answer
+pub fullest_answers : {S : Type 0} (dead : List ℕ) (before : S) (block : ℕ) → (askable dead ≡ true → Fullest dead block) → (askable dead ≡ false → block ≡ 0) → Answers dead before block before
+fullest_answers dead before block most none = by (askable dead) refl
+  where
+    by : (v : Bool) → askable dead ≡ v → MatchBool v (Yields dead block) ((block ≡ 0) × (before ≡ before))
+    by true is = fullest_yields dead block (most is)
+    by false is = (none is, refl)

@@ -1,8 +1,6 @@
 use Rattle.std.proofs.Common.{rules}
-use Rattle.chooser.proofs.Yield.{fullest_yields, yields_answer}
+use Rattle.chooser.proofs.Yield.{fullest_answers}
 use Rattle.chooser.proofs.greedy.GreedyChooser.choose.Goals as goal
 
-pub returns-then-askable-clause-law : goal.returns-then-askable-clause-law
-returns-then-askable-clause-law c =
-    let dead = c.args.question.dead.now in
-    yields_answer dead _ c.fullest.result _ (search rules) (fullest_yields dead c.fullest.result c.fullest.ensures)
+pub returns-clause-law : goal.returns-clause-law
+returns-clause-law c = fullest_answers c.args.question.dead.now c.args.self.now c.map_or.result (search rules) (search rules)

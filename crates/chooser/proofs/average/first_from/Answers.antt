@@ -1,7 +1,0 @@
-use Rattle.std.proofs.Common.{rules}
-use Rattle.std.proofs.iter.runs.Sources.{ranges}
-use Rattle.chooser.proofs.Search.{searched}
-use Rattle.chooser.proofs.average.first_from.Goals as goal
-
-pub returns : goal.returns
-returns c = searched c.args.dead.now c.args.from c.find.result (search (rules, ranges))
