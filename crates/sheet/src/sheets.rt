@@ -8,7 +8,8 @@ use plan::{Job, Plan};
 use script::{Line, Script, number};
 use std::alloc::{AllocError, Global};
 
-const MOST_BYTES: usize = 32_768;
+// The most bytes that a sheet may have.
+pub const MOST_BYTES: usize = 32_768;
 
 // Answers a sheet of jobs: for each line `alpha period writes` the numbers of its plan, and `?` for any other line.
 pub fn plan_sheet(heap: Global, input: &[u8]) -> Result<Vec<u8>, AllocError>
