@@ -1,35 +1,38 @@
 -- A search upwards, and again from 0 where it finds none, is a search round.
-use Rattle.std.proofs.Common.{◌≡◌, ℕ, ◌+◌, ◌-◌, ◌*◌, ◌%◌, ◌<◌, ◌≤◌, ltb, List, length, get_or, take, drop, Bool, eqb, ◌++◌, Some, None, sum, sym, ap, ◌∙◌, subst, ⊎_elim, mod-eq_of_lt, arith, length-drop, ltb-false, ltb-true, lt-ltb}
+use Rattle.std.proofs.Common.{◌≡◌, ℕ, ◌+◌, ◌-◌, ◌*◌, ◌%◌, ◌<◌, ◌≤◌, ltb, List, length, get_or, take, drop, Bool, eqb, ◌++◌, Some, None, sum, sym, ap, ◌∙◌, subst, ⊎_elim, mod-eq_of_lt, arith, length-drop, ltb-true, lt-ltb}
 use native.Mathlib.Nat.{add-mod_left}
 use Rattle.std.specs.List.{prefix_len}
 use Rattle.std.proofs.lemmas.List.{get_or_append_left, get_or-append_right, get_or-drop, get_or-take, length-take-le, take-append-drop}
 use Rattle.std.proofs.lemmas.List.Sums.{prefix_len-le-length, prefix_len_passes}
 use Rattle.std.proofs.lemmas.List.Folds.{prefix_len-append}
 use Rattle.std.proofs.lemmas.Bool.{cases_lt, cond-true, cond-false, eq-eqb, ne_eqb}
+use Rattle.std.proofs.lemmas.Option.{cond_some, none-some}
 use Rattle.chooser.specs.Counts.{below_average, next_from, first_from}
 use Rattle.chooser.specs.Hand.{Passes, round, passed_over, first_round}
 use Rattle.chooser.specs.Law.{Yields}
 use Rattle.chooser.proofs.Reaching.{next_yields, some_reaches}
-use Rattle.chooser.proofs.Tested.{none_test, some_test}
 
 -- what a search tells that found a block
 found_one : (dead : List ℕ) (from block : ℕ) → Some block ≡ first_from dead from → (next_from dead from < length dead) × (block ≡ next_from dead from)
 found_one dead from block is =
     let next = next_from dead from in
-    let tested = some_test (ltb next (length dead)) next block is in
-    (ltb-true next (length dead) tested.0, tested.1)
+    let found = cond_some (ltb next (length dead)) next block (sym is) in
+    (ltb-true next (length dead) found.0, sym found.1)
+
+found_short : (dead : List ℕ) (from : ℕ) → next_from dead from < length dead → first_from dead from ≡ Some (next_from dead from)
+found_short dead from short =
+    let next = next_from dead from in
+    cond-true (ltb next (length dead)) (Some next) None (lt-ltb next (length dead) short)
 
 -- and one that found none
 found_none : (dead : List ℕ) (from : ℕ) → None ≡ first_from dead from → length dead ≤ next_from dead from
 found_none dead from is =
-    let next = next_from dead from in
-    ltb-false next (length dead) (none_test (ltb next (length dead)) next is)
+    ⊎_elim (λ short. absurd (none-some (next_from dead from) (is ∙ found_short dead from short))) (λ long. long)
+    (cases_lt (next_from dead from) (length dead))
 
 -- a search from 0 finds one always
 pub found_always : (dead : List ℕ) → 1 ≤ length dead → first_from dead 0 ≡ Some (next_from dead 0)
-found_always dead some =
-    let next = next_from dead 0 in
-    cond-true (ltb next (length dead)) (Some next) None (lt-ltb next (length dead) (some_reaches dead some))
+found_always dead some = found_short dead 0 (some_reaches dead some)
 
 -- a front that ends within its list is one of the whole, and one that is its list goes on in what follows
 module _ (p : ℕ → Bool) (xs ys : List ℕ) where
