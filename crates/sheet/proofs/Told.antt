@@ -2,8 +2,8 @@
 use Rattle.std.proofs.Common.{◌≡◌, ℕ, ◌≤◌, ltb, List, [], ◌∷◌, ◌++◌, map, length, Some, None, decimal, Option, sym, refl, ap, ◌∙◌, subst, arith}
 use Rattle.std.proofs.lemmas.Bool.{cond-false, le-ltb}
 use Rattle.std.proofs.lemmas.Option.{cond_some, none-some}
-use Rattle.plan.proofs.Law.{law_of, Small, small_of}
-use Rattle.plan.specs.Plan.{in_range, plan_of, PlanLaw}
+use Rattle.plan.proofs.Law.{planned_law, Small, small_of}
+use Rattle.plan.specs.Plan.{in_range, plan_of}
 use Rattle.plan.specs.declared.numbers.Plan.{Plan}
 use Rattle.script.specs.Law.{Clear}
 use Rattle.script.specs.Numbers.{number_of}
@@ -72,7 +72,7 @@ told line = by (plan_for line) refl
         let small = subst Small ranged.1 (small_of α p w ranged.0) in
         record {
           clear = one_line plan small;
-          answered = by_plan α p w plan _ _ _ (record { first = words.0.0; second = words.0.1; third = words.0.2; three = three_words line words.0 words.1; yield = first.1; period = second.1; writes = third.1; ranged = ranged.0 }) (subst (PlanLaw α p w) ranged.1 (law_of α p w ranged.0)) (printed plan small) (decimal_writes plan.meta_period small.meta_period) (decimal_writes plan.writes small.writes) (decimal_writes plan.runs small.runs);
+          answered = by_plan α p w plan _ _ _ (record { first = words.0.0; second = words.0.1; third = words.0.2; three = three_words line words.0 words.1; yield = first.1; period = second.1; writes = third.1; ranged = ranged.0 }) (planned_law α p w plan third.2) (printed plan small) (decimal_writes plan.meta_period small.meta_period) (decimal_writes plan.writes small.writes) (decimal_writes plan.runs small.runs);
         }
 
 -- the lines printed, read back
