@@ -27,10 +27,10 @@ pub answer_worth : {S : Type 0} (dead : List ℕ) (before : S) (block : ℕ) (af
 answer_worth dead before block after asked answer =
     yields_worth dead block (answer_yields dead before block after asked answer)
 
--- a chooser that names a block with the most dead pages, or 0 on a list that it need not answer
-pub fullest_answers : {S : Type 0} (dead : List ℕ) (before : S) (block : ℕ) → (askable dead ≡ true → Fullest dead block) → (askable dead ≡ false → block ≡ 0) → Answers dead before block before
-fullest_answers dead before block most none = by (askable dead) refl
+-- what answers so that the law holds: a block that yields, and 0 on a list that no chooser has to answer
+pub yields_answer : {S : Type 0} (dead : List ℕ) (before : S) (block : ℕ) → (askable dead ≡ true → Yields dead block) → (askable dead ≡ false → block ≡ 0) → Answers dead before block before
+yields_answer dead before block yields none = by (askable dead) refl
   where
     by : (v : Bool) → askable dead ≡ v → MatchBool v (Yields dead block) ((block ≡ 0) × (before ≡ before))
-    by true is = fullest_yields dead block (most is)
+    by true is = yields is
     by false is = (none is, refl)
