@@ -5,7 +5,7 @@ use Rattle.plan.proofs.numbers.Plan.of.Goals as goal
 
 pub returns-then-writes-alpha : goal.returns-then-writes-alpha
 returns-then-writes-alpha c =
-    let up = rounded_up c.args.job.writes c.args.alpha (omega arith) in
+    let up = rounded_up c.args.job.writes c.args.alpha (grind arith) in
     record { plan = grind (arith, nat_tests, up); law = λ plan is. planned_law _ _ _ plan (grind (arith, nat_tests, up, is)) }
 
 pub returns : goal.returns
