@@ -65,7 +65,7 @@ impl<'a> Counts<'a> {
         (from..self.dead.len()).find(|block| !self.below_average(*block))
     }
 
-    // Whether a block has less than the average, without a division.
+    // Whether a block has less than the average, without a division. At most 64 blocks: the cast loses nothing.
     fn below_average(&self, block: usize) -> bool
         requires { block < length self.now.dead.now }
         ensures { result ≡ below_average self.now.dead.now (slice_index self.now.dead.now block) }

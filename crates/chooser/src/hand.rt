@@ -34,6 +34,7 @@ impl Chooser for Hand {
         };
         let next = usize::from(self.next);
         let from = if next < question.dead.len() { next } else { 0 };
+        // A block is below 64, so the cast loses nothing.
         let block = counts.first_round(from) as u16;
         self.next = block + 1;
         block
