@@ -1,6 +1,7 @@
 -- Which lists a chooser has to answer.
-use Rattle.std.proofs.Common.{◌≡◌, ℕ, zero, suc, ◌<◌, ◌≤◌, true, false, ◌&&◌, leb, List, [], ◌∷◌, length, get_or, refl, arith, le-leb, leb-true}
+use Rattle.std.proofs.Common.{◌≡◌, ℕ, zero, suc, ◌<◌, ◌≤◌, Bool, true, false, ◌&&◌, leb, List, [], ◌∷◌, length, get_or, MatchBool, refl, sym, arith, le-leb, leb-true}
 use borrow.Author.Tests.{lt-leb}
+use Rattle.std.specs.List.{AllWithin, HoldsAt}
 use Rattle.std.proofs.lemmas.Bool.{and_parts, and_from, and_left, and_right}
 use Rattle.chooser.specs.Law.{askable, all_at_most}
 
@@ -48,12 +49,7 @@ asked dead yes' =
 pub not_empty : (dead : List ℕ) → length dead ≡ 0 → askable dead ≡ false
 not_empty dead none = and_left (leb 1 (length dead)) (leb (length dead) 64 && all_at_most 32 dead) (lt-leb 1 (length dead) (omega arith))
 
-pub not_long : (dead : List ℕ) → 64 < length dead → askable dead ≡ false
-not_long dead long =
-    and_right (leb 1 (length dead)) (leb (length dead) 64 && all_at_most 32 dead)
-    (and_left (leb (length dead) 64) (all_at_most 32 dead) (lt-leb (length dead) 64 long))
-
-pub not_above : (dead : List ℕ) (block : ℕ) → block < length dead → 32 < get_or dead block 0 → askable dead ≡ false
-not_above dead block there above =
-    and_right (leb 1 (length dead)) (leb (length dead) 64 && all_at_most 32 dead)
-    (and_right (leb (length dead) 64) (all_at_most 32 dead) (one_above 32 dead block there above))
+-- what a test of all counts tells
+pub tested : (most : ℕ) (dead : List ℕ) (small : Bool) → MatchBool small (AllWithin (λ x. x ≤ most) dead 0 (length dead)) ((block : ℕ) × (block < length dead) × HoldsAt (λ x. most < x) dead block) → small ≡ all_at_most most dead
+tested most dead true all = sym (none_above most dead (λ block there. all block 0 (omega arith) there))
+tested most dead false one = sym (one_above most dead one.0 one.1 (one.2 0))

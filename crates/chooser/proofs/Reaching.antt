@@ -3,10 +3,10 @@ use Rattle.std.proofs.Common.{◌≡◌, ℕ, ◌-◌, ◌*◌, ◌/◌, ◌<◌
 use Rattle.std.specs.List.{prefix_len}
 use Rattle.std.proofs.ByRecursion.{All-from_get_or, sum_by_le}
 use Rattle.std.proofs.lemmas.List.{get_or-drop}
+use Rattle.std.proofs.lemmas.List.Sums.{prefix_len_passes, prefix_len_stops}
 use Rattle.std.proofs.lemmas.Bool.{cases_lt}
 use Rattle.chooser.specs.Counts.{below_average, next_from}
 use Rattle.chooser.specs.Law.{Yields}
-use Rattle.chooser.proofs.Fronts.{leading_passes, leading_stops}
 
 module _ (dead : List ℕ) where
   -- not all counts can lie below the average
@@ -21,7 +21,7 @@ module _ (dead : List ℕ) where
   some_reaches some =
       ⊎_elim (λ short. short)
       (λ long. absurd (not_all_below some (λ block there.
-      ltb-true (get_or dead block 0 * length dead) (sum dead) (leading_passes (below_average dead) dead block (omega arith)))))
+      ltb-true (get_or dead block 0 * length dead) (sum dead) (prefix_len_passes (below_average dead) dead block 0 (omega arith)))))
       (cases_lt (next_from dead 0) (length dead))
 
   -- the block that a search upwards ends at yields
@@ -29,7 +29,7 @@ module _ (dead : List ℕ) where
   next_yields from short =
       let ahead = drop from dead in
       let count = get_or dead (next_from dead from) 0 in
-      let stops = leading_stops (below_average dead) ahead (omega (arith, length-drop from dead)) in
+      let stops = prefix_len_stops (below_average dead) ahead 0 (omega (arith, length-drop from dead)) in
       let here = get_or-drop from dead (prefix_len (below_average dead) ahead) 0 in
       let reaches : below_average dead count ≡ false = cc in
       record { there = short; worth = ltb-false (count * length dead) (sum dead) reaches }

@@ -1,35 +1,46 @@
 -- A search upwards, and again from 0 where it finds none, is a search round.
-use Rattle.std.proofs.Common.{◌≡◌, ℕ, ◌+◌, ◌-◌, ◌*◌, ◌%◌, ◌<◌, ◌≤◌, true, ltb, List, length, get_or, take, drop, is_some, Some, None, sum, sym, ap, ◌∙◌, subst, ⊎_elim, mod-eq_of_lt, arith, length-drop, ltb-false, ltb-true, lt-ltb}
+use Rattle.std.proofs.Common.{◌≡◌, ℕ, ◌+◌, ◌-◌, ◌*◌, ◌%◌, ◌<◌, ◌≤◌, ltb, List, length, get_or, take, drop, Bool, eqb, ◌++◌, Some, None, sum, sym, ap, ◌∙◌, subst, ⊎_elim, mod-eq_of_lt, arith, length-drop, ltb-true, lt-ltb}
 use native.Mathlib.Nat.{add-mod_left}
 use Rattle.std.specs.List.{prefix_len}
 use Rattle.std.proofs.lemmas.List.{get_or_append_left, get_or-append_right, get_or-drop, get_or-take, length-take-le, take-append-drop}
-use Rattle.std.proofs.lemmas.List.Sums.{prefix_len-le-length}
-use Rattle.std.proofs.lemmas.Bool.{cases_lt, cond-true}
+use Rattle.std.proofs.lemmas.List.Sums.{prefix_len-le-length, prefix_len_passes}
+use Rattle.std.proofs.lemmas.List.Folds.{prefix_len-append}
+use Rattle.std.proofs.lemmas.Bool.{cases_lt, cond-true, cond-false, eq-eqb, ne_eqb}
+use Rattle.std.proofs.lemmas.Option.{cond_some, none-some}
 use Rattle.chooser.specs.Counts.{below_average, next_from, first_from}
 use Rattle.chooser.specs.Hand.{Passes, round, passed_over, first_round}
 use Rattle.chooser.specs.Law.{Yields}
-use Rattle.chooser.proofs.Fronts.{leading_passes, leading_within, leading_through}
 use Rattle.chooser.proofs.Reaching.{next_yields, some_reaches}
-use Rattle.chooser.proofs.Tested.{none_test, some_test}
 
 -- what a search tells that found a block
 found_one : (dead : List ℕ) (from block : ℕ) → Some block ≡ first_from dead from → (next_from dead from < length dead) × (block ≡ next_from dead from)
 found_one dead from block is =
     let next = next_from dead from in
-    let tested = some_test (ltb next (length dead)) next block is in
-    (ltb-true next (length dead) tested.0, tested.1)
+    let found = cond_some (ltb next (length dead)) next block (sym is) in
+    (ltb-true next (length dead) found.0, sym found.1)
+
+found_short : (dead : List ℕ) (from : ℕ) → next_from dead from < length dead → first_from dead from ≡ Some (next_from dead from)
+found_short dead from short =
+    let next = next_from dead from in
+    cond-true (ltb next (length dead)) (Some next) None (lt-ltb next (length dead) short)
 
 -- and one that found none
 found_none : (dead : List ℕ) (from : ℕ) → None ≡ first_from dead from → length dead ≤ next_from dead from
 found_none dead from is =
-    let next = next_from dead from in
-    ltb-false next (length dead) (none_test (ltb next (length dead)) next is)
+    ⊎_elim (λ short. absurd (none-some (next_from dead from) (is ∙ found_short dead from short))) (λ long. long)
+    (cases_lt (next_from dead from) (length dead))
 
 -- a search from 0 finds one always
-pub found_always : (dead : List ℕ) → 1 ≤ length dead → is_some (first_from dead 0) ≡ true
-found_always dead some =
-    let next = next_from dead 0 in
-    ap is_some (cond-true (ltb next (length dead)) (Some next) None (lt-ltb next (length dead) (some_reaches dead some)))
+pub found_always : (dead : List ℕ) → 1 ≤ length dead → first_from dead 0 ≡ Some (next_from dead 0)
+found_always dead some = found_short dead 0 (some_reaches dead some)
+
+-- a front that ends within its list is one of the whole, and one that is its list goes on in what follows
+module _ (p : ℕ → Bool) (xs ys : List ℕ) where
+  leading_within : prefix_len p xs < length xs → prefix_len p (xs ++ ys) ≡ prefix_len p xs
+  leading_within short = prefix_len-append p xs ys ∙ cond-false (eqb (prefix_len p xs) (length xs)) _ _ (ne_eqb _ _ (λ same. omega arith))
+
+  leading_through : length xs ≤ prefix_len p xs → prefix_len p (xs ++ ys) ≡ length xs + prefix_len p ys
+  leading_through long = prefix_len-append p xs ys ∙ cond-true (eqb (prefix_len p xs) (length xs)) _ _ (eq-eqb _ _ (omega (arith, prefix_len-le-length p xs)))
 
 module _ (dead : List ℕ) (from : ℕ) (there : from < length dead) where
   -- found going up
@@ -97,5 +108,5 @@ module _ (dead : List ℕ) (from : ℕ) (there : from < length dead) where
       let ends = round_ends some in
       record {
         ends = ends;
-        below = λ k early. ltb-true (get_or dead ((from + k) % length dead) 0 * length dead) (sum dead) (let met = met_after k (omega arith) in let low = leading_passes (below_average dead) (round dead from) k early in cc);
+        below = λ k early. ltb-true (get_or dead ((from + k) % length dead) 0 * length dead) (sum dead) (let met = met_after k (omega arith) in let low = prefix_len_passes (below_average dead) (round dead from) k 0 early in cc);
       }

@@ -1,39 +1,82 @@
-// What a list of counts comes to: its sum and its maximum.
-ghost use Rattle.std.specs.Prelude.{◌≡◌, ◌≤◌, length};
-ghost use Rattle.chooser.specs.Counts.{Fullest, total_of};
+// A list of counts that a chooser has to answer, and what it comes to: its sum, its maximum and its average.
+ghost use Rattle.std.specs.Prelude.{◌≡◌, ◌<◌, true, length, sum as all_dead, slice_index, IfSome};
+ghost use Rattle.std.specs.Option.{option_map};
+ghost use Rattle.chooser.specs.Counts.{Fullest, below_average, first_from, total_of};
+ghost use Rattle.chooser.specs.Hand.{Passes, first_round};
+ghost use Rattle.chooser.specs.Law.{Yields, askable};
 
 // The most blocks that a chooser is asked about, and the most dead pages that one of them has.
 const MOST_BLOCKS: usize = 64;
 
 const MOST_DEAD: u8 = 32;
 
-// The dead pages of all blocks together, or nothing where no chooser has to answer the list.
-pub(crate) fn total(dead: &[u8]) -> Option<u16>
-    ensures { result ≡ total_of dead.now }
-{
-    if dead.is_empty() {
-        return None;
-    }
-    let mut sum = 0;
-    for (block, count) in dead.iter().enumerate() {
-        if block >= MOST_BLOCKS || *count > MOST_DEAD {
-            return None;
-        }
-        sum += u16::from(*count);
-    }
-    Some(sum)
+// The dead pages of each block, and of all blocks together.
+#[derive(Clone, Copy)]
+pub(crate) struct Counts<'a> {
+    dead: &'a [u8],
+    sum: u16,
+    ghost asked: { askable dead.now ≡ true },
+    ghost summed: { sum ≡ all_dead dead.now },
 }
 
-// A block with the most dead pages.
-pub(crate) fn fullest(dead: &[u8]) -> usize
-    requires { 1 ≤ length dead.now }
-    ensures { Fullest dead.now result }
-{
-    let mut best = 0;
-    for (block, count) in dead.iter().enumerate() {
-        if *count > dead[best] {
-            best = block;
+impl<'a> Counts<'a> {
+    // Nothing where no chooser has to answer the list.
+    pub(crate) fn of(dead: &'a [u8]) -> Option<Counts<'a>>
+        ensures sum { option_map (λ counts. counts.sum) result ≡ total_of dead.now }
+        ensures dead { IfSome result (λ counts. counts.dead.now ≡ dead.now) }
+    {
+        if !askable(dead) {
+            return None;
+        }
+        Some(Counts {
+            dead,
+            sum: dead.iter().map(|count| u16::from(*count)).sum(),
+        })
+    }
+
+    // A block with the most dead pages: the first of several, since `max_by_key` takes the last that it meets.
+    pub(crate) fn fullest(&self) -> usize
+        ensures { Fullest self.now.dead.now result }
+    {
+        (0..self.dead.len())
+            .rev()
+            .max_by_key(|block| self.dead[*block])
+            .unwrap()
+    }
+
+    // The first block that has at least the average, going up from `from` and round: there always is one.
+    pub(crate) fn first_round(&self, from: usize) -> usize
+        requires { from < length self.now.dead.now }
+        ensures block { result ≡ first_round self.now.dead.now from }
+        ensures passes { Passes self.now.dead.now from }
+        ensures yields { Yields self.now.dead.now result }
+    {
+        // By cases: with `or_else` the proof does not close, since its closure would hold a struct with ghost fields.
+        match self.first_from(from) {
+            Some(block) => block,
+            None => self.first_from(0).unwrap(),
         }
     }
-    best
+
+    // The first block, at `from` or above it, that has at least the average.
+    fn first_from(&self, from: usize) -> Option<usize>
+        ensures { result ≡ first_from self.now.dead.now from }
+    {
+        (from..self.dead.len()).find(|block| !self.below_average(*block))
+    }
+
+    // Whether a block has less than the average, without a division. At most 64 blocks: the cast loses nothing.
+    fn below_average(&self, block: usize) -> bool
+        requires { block < length self.now.dead.now }
+        ensures { result ≡ below_average self.now.dead.now (slice_index self.now.dead.now block) }
+    {
+        u16::from(self.dead[block]) * (self.dead.len() as u16) < self.sum
+    }
+}
+
+// Has a chooser to answer this list?
+fn askable(dead: &[u8]) -> bool
+    ensures { result ≡ askable dead.now }
+{
+    !dead.is_empty() && dead.len() <= MOST_BLOCKS && dead.iter().all(|count| *count <= MOST_DEAD)
 }

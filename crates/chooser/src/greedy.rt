@@ -3,7 +3,7 @@ ghost use Rattle.chooser.specs.Counts.{Fullest};
 ghost use Rattle.chooser.specs.Law.{Answers, askable};
 
 use crate::chooser::Chooser;
-use crate::counts::{fullest, total};
+use crate::counts::Counts;
 use crate::question::Question;
 
 // Names a block with the most dead pages. Which of several it names is left open.
@@ -15,9 +15,7 @@ impl Chooser for Greedy {
         ensures law { Answers question.entry.dead.now self.old result self.new }
         ensures most { askable question.entry.dead.now ≡ true → Fullest question.entry.dead.now result }
     {
-        match total(question.dead) {
-            Some(_) => fullest(question.dead) as u16,
-            None => 0,
-        }
+        // A block is below 64, so the cast loses nothing.
+        Counts::of(question.dead).map_or(0, |counts| counts.fullest() as u16)
     }
 }

@@ -1,7 +1,6 @@
 // Policies that pick the block to empty, behind one law: the block named has at least the average of dead pages.
 #![tactic(auto)]
 
-mod average;
 mod chooser;
 mod counts;
 mod greedy;

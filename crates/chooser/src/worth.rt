@@ -10,13 +10,5 @@ pub fn block_to_empty<C: Chooser>(chooser: &mut C, question: Question<'_>) -> u1
     ensures law { Answers question.entry.dead.now chooser.old result chooser.new }
     ensures worth { askable question.entry.dead.now ≡ true → Worth question.entry.dead.now result }
 {
-    named(chooser, question)
-}
-
-// Stands apart from the public call, so that a change of that call is refused at the call itself.
-fn named<C: Chooser>(chooser: &mut C, question: Question<'_>) -> u16
-    ensures law { Answers question.entry.dead.now chooser.old result chooser.new }
-    ensures worth { askable question.entry.dead.now ≡ true → Worth question.entry.dead.now result }
-{
     chooser.choose(question)
 }

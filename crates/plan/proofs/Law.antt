@@ -1,23 +1,19 @@
 -- The plan of the rules keeps the law of a plan. Assumes nothing.
-use Rattle.std.proofs.Common.{◌≡◌, ℕ, zero, suc, ◌+◌, ◌-◌, ◌*◌, ◌/◌, ◌%◌, ◌^◌, ◌<◌, ◌≤◌, min, Bool, true, false, cond, ◌&&◌, ltb, leb, sym, refl, ap, ◌∙◌, mod-lt, mul_assoc, mul_comm, add-mul, mul-le-mul, mul-pos, div-add-mod', le-div_iff_mul-le, div-le_self, arith}
+use Rattle.std.proofs.Common.{◌≡◌, ℕ, ◌+◌, ◌-◌, ◌*◌, ◌/◌, ◌%◌, ◌^◌, ◌<◌, ◌≤◌, min, Some, subst, Bool, true, false, cond, ◌&&◌, ltb, leb, sym, refl, ap, ◌∙◌, mul_assoc, mul_comm, add-mul, mul-le-mul, mul-pos, le-div_iff_mul-le, div-le_self, arith}
 use native.Mathlib.Nat.{mul-div-le, lt-div-mul-add, div-eq_of_lt-le}
 use Rattle.std.proofs.lemmas.Bool.{and_parts, leb-true, ltb-true, ltb-false}
+use Rattle.std.proofs.lemmas.Grind.{div_ceil_times}
+use Rattle.std.proofs.lemmas.Option.{cond_some}
 use Rattle.plan.specs.declared.numbers.Plan.{Plan}
-use Rattle.plan.specs.Plan.{in_range, plan_of, PlanLaw, ⌈◌/◌⌉, many_runs, one_run}
+use Rattle.plan.specs.Plan.{in_range, plan_of, planned, PlanLaw, ⌈◌/◌⌉, many_runs, one_run}
 
--- a quotient rounded up, from the quotient and its remainder
-up_from : (a b q r : ℕ) → q * b + r ≡ a → r < b → q + min 1 r ≡ ⌈ a / b ⌉
-up_from a b q zero whole part =
-    let more = add-mul (q + 0) 1 b in
-    sym (div-eq_of_lt-le {k = q + 0} b {m = a + (b - 1)} (omega arith) (omega arith))
-up_from a b q (suc r) whole part =
-    let one = add-mul q 1 b in
-    let more = add-mul (q + 1) 1 b in
-    let part-run : q + min 1 (suc r) ≡ q + 1 = omega arith in
-    part-run ∙ sym (div-eq_of_lt-le {k = q + 1} b {m = a + (b - 1)} (omega arith) (omega arith))
-
+-- a quotient rounded up
 pub rounded_up : (a b : ℕ) → 1 ≤ b → a / b + min 1 (a % b) ≡ ⌈ a / b ⌉
-rounded_up a b h = up_from a b (a / b) (a % b) (div-add-mod' a b) (mod-lt a h)
+rounded_up a b h =
+    let up = a / b + min 1 (a % b) in
+    let times = div_ceil_times a b h in
+    let more = add-mul up 1 b in
+    sym (div-eq_of_lt-le {k = up} b {m = a + (b - 1)} (omega (arith, times.0, times.1)) (omega (arith, times.0, times.1)))
 
 pub many_law : (α p w : ℕ) → 1 ≤ α → 1 ≤ p → α < w → PlanLaw α p w (many_runs α p w)
 many_law α p w a b over =
@@ -87,6 +83,11 @@ law_of α p w is = by (ranges α p w is) (ltb α w) refl
     by : Ranges α p w → (v : Bool) → ltb α w ≡ v → PlanLaw α p w (cond v (many_runs α p w) (one_run α p w))
     by r true over = many_law α p w r.yield_low r.period_low (ltb-true α w over)
     by r false fits = one_law α p w r.period_low r.writes_low (ltb-false α w fits)
+
+pub planned_law : (α p w : ℕ) (plan : Plan) → planned α p w ≡ Some plan → PlanLaw α p w plan
+planned_law α p w plan is =
+    let ranged = cond_some (in_range α p w) (plan_of α p w) plan is in
+    subst (PlanLaw α p w) ranged.1 (law_of α p w ranged.0)
 
 -- and is small
 pub small_of : (α p w : ℕ) → in_range α p w ≡ true → Small (plan_of α p w)

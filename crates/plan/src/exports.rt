@@ -1,5 +1,5 @@
 // The plan as C asks for it: one number a call, and 0 where a number is out of its range.
-// The crate plan_c exports these three functions.
+// The crate plan_c exports these three functions. They differ in a field alone: C gets one number a call.
 ghost use Rattle.std.specs.Prelude.{◌≡◌, if◌then◌else◌};
 ghost use Rattle.plan.specs.Plan.{in_range, plan_of};
 

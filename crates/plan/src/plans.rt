@@ -10,7 +10,10 @@ impl Plan {
         ensures law { (plan : Plan) → result ≡ Some plan → PlanLaw alpha job.period job.writes plan }
     {
         let Job { period, writes } = job;
-        if alpha < 1 || alpha > 32 || period < 1 || period > 60_000 || writes < 1 || writes > 1024 {
+        let in_range = (1..=32).contains(&alpha)
+            && (1..=60_000).contains(&period)
+            && (1..=1024).contains(&writes);
+        if !in_range {
             return None;
         }
         if writes > alpha {

@@ -1,5 +1,5 @@
 // The plan as the firmware's C asks for it: one number a call, and 0 where a number is out of its range.
-// include/plan.h declares these.
+// include/plan.h declares these. An export needs a function of its own, so each hands on to the one of `plan`.
 #![tactic(auto)]
 
 ghost use Rattle.std.specs.Prelude.{◌≡◌, if◌then◌else◌};

@@ -1,11 +1,11 @@
 // Reads a sheet of jobs from standard input and prints the sheet of plans.
 #![tactic(auto)]
 
-use sheet::plan_sheet;
+use sheet::{MOST_BYTES, plan_sheet};
 use std::io::{Read, Write};
 
 // One byte more than a sheet may have: enough to see that it is too long.
-const READ_AT_MOST: u64 = 32_769;
+const READ_AT_MOST: u64 = MOST_BYTES as u64 + 1;
 
 fn main(rt: HostRuntime) -> anyhow::Result<()> {
     let mut input = Vec::new(rt.alloc());

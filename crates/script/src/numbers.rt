@@ -1,7 +1,5 @@
 ghost use Rattle.std.specs.Prelude.{◌≡◌};
-ghost use Rattle.script.specs.Numbers.{digit_of, number_of};
-
-const LARGEST: u32 = 65_535;
+ghost use Rattle.script.specs.Numbers.{number_of};
 
 // The number that a word is.
 pub fn number(word: &[u8]) -> Option<u16>
@@ -12,19 +10,8 @@ pub fn number(word: &[u8]) -> Option<u16>
     }
     let mut value: u32 = 0;
     for b in word {
-        value = value * 10 + digit(*b)?;
-        if value > LARGEST {
-            return None;
-        }
+        let digit = char::from(*b).to_digit(10)?;
+        value = value.checked_mul(10)?.checked_add(digit)?;
     }
-    Some(value as u16)
-}
-
-fn digit(b: u8) -> Option<u32>
-    ensures { result ≡ digit_of b }
-{
-    match b {
-        b'0'..=b'9' => Some(u32::from(b - b'0')),
-        _ => None,
-    }
+    u16::try_from(value).ok()
 }

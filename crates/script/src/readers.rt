@@ -1,13 +1,11 @@
-// A script, and the place up to which its lines were handed out.
+// A script: the bytes that follow the lines handed out.
 #[derive(Drop)]
 pub struct Script<'a> {
-    pub(crate) input: &'a [u8],
-    pub(crate) place: usize,
+    pub(crate) rest: &'a [u8],
 }
 
-// A line, and the place up to which its words were handed out: one past its end after the last.
+// A line: the bytes that follow the words handed out, and nothing after the last word.
 #[derive(Drop)]
 pub struct Line<'a> {
-    pub(crate) bytes: &'a [u8],
-    pub(crate) place: usize,
+    pub(crate) rest: Option<&'a [u8]>,
 }

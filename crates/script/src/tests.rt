@@ -6,15 +6,8 @@ use std::test::Fail;
 // The words of each line, a bar after each word and a semicolon after each line.
 fn told(heap: std::alloc::Global, input: &[u8]) -> Result<Vec<u8>, Fail> {
     let mut out = Vec::new(heap);
-    let mut script = Script::new(input);
-    for _ in 0..input.len() {
-        let Some(mut line) = script.line() else {
-            break;
-        };
-        for _ in 0..=input.len() {
-            let Some(word) = line.word() else {
-                break;
-            };
+    for line in Script::new(input) {
+        for word in line {
             out.extend_from_slice(word)?;
             out.push(b'|')?;
         }

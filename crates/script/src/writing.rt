@@ -6,14 +6,6 @@ use std::alloc::AllocError;
 pub fn push_number(out: &mut Vec<u8>, number: u32) -> Result<(), AllocError>
     ensures { out.new.items ≡ (if is_ok result then out.old.items ++ decimal number else out.old.items) }
 {
-    let mut digits = [b'0'; 10];
-    let mut first = 9;
-    let mut rest = number;
-    while rest >= 10 {
-        digits[first] = b'0' + (rest % 10) as u8;
-        rest /= 10;
-        first -= 1;
-    }
-    digits[first] = b'0' + rest as u8;
-    out.extend_from_slice(&digits[first..])
+    let digits = number.to_string(*out.allocator())?;
+    out.extend_from_slice(digits.as_bytes())
 }

@@ -5,4 +5,4 @@ mod sheets;
 #[cfg(test)]
 mod tests;
 
-pub use sheets::plan_sheet;
+pub use sheets::{MOST_BYTES, plan_sheet};

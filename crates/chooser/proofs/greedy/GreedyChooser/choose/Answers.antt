@@ -1,12 +1,8 @@
-use Rattle.chooser.proofs.Totals.{totalled}
+use Rattle.std.proofs.Common.{rules}
 use Rattle.chooser.proofs.Yield.{fullest_yields, yields_answer}
 use Rattle.chooser.proofs.greedy.GreedyChooser.choose.Goals as goal
 
-pub returns-in-Some : goal.returns-in-Some
-returns-in-Some c =
+pub returns-clause-law : goal.returns-clause-law
+returns-clause-law c =
     let dead = c.args.question.dead.now in
-    let asked = (totalled dead _ c.in-Some.ensures).0 in
-    record {
-      law = yields_answer dead _ c.fullest.result _ asked (fullest_yields dead c.fullest.result c.fullest.ensures);
-      most = λ _. c.fullest.ensures;
-    }
+    yields_answer dead c.args.self.now c.map_or.result (λ asked. fullest_yields dead c.map_or.result (search rules)) (search rules)

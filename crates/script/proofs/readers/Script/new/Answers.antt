@@ -1,6 +1,5 @@
-use Rattle.std.proofs.Common.{refl}
 use Rattle.script.proofs.Whole.{cut_law}
 use Rattle.script.proofs.readers.Script.new.Goals as goal
 
-pub returns : goal.returns
-returns c = record { lines = refl; law = cut_law c.args.input.now }
+pub returns-clause-law : goal.returns-clause-law
+returns-clause-law c = cut_law c.args.input.now

@@ -1,5 +1,5 @@
 use Rattle.chooser.proofs.Yield.{answer_worth}
-use Rattle.chooser.proofs.worth.named.Goals as goal
+use Rattle.chooser.proofs.worth.block_to_empty.Goals as goal
 
 pub returns : goal.returns
 returns g c =
