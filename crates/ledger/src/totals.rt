@@ -1,4 +1,5 @@
-// Sums over the books.
+// Sums over the books. Each is a loop: with `map` and `sum` each part's fit and each partial sum's would be
+// proved apart, which is longer.
 ghost use Rattle.std.specs.Prelude.{◌≡◌, ◌*◌, ◌≤◌};
 ghost use Rattle.ledger.specs.Books.{extra, held, highest};
 ghost use Rattle.ledger.specs.Of.{books_of};
