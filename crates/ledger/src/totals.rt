@@ -1,5 +1,5 @@
-// Sums over the books. Each is a loop: with `map` and `sum` each part's fit and each partial sum's would be
-// proved apart, which is longer.
+// Sums over the books. Each is a `for`: a partial sum is known to fit for the books' own seats alone, and a chain
+// with `sum` is bounded by whatever its closure may answer.
 ghost use Rattle.std.specs.Prelude.{◌≡◌, ◌*◌, ◌≤◌};
 ghost use Rattle.ledger.specs.Books.{extra, held, highest};
 ghost use Rattle.ledger.specs.Of.{books_of};
