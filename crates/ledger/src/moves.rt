@@ -20,6 +20,7 @@ use crate::seat::{Seat, Status};
 use plan::Plan;
 
 impl Seat {
+    // The record of an empty seat.
     pub(crate) const VACANT: Seat = Seat {
         status: Status::Empty,
         plan: Plan {
@@ -111,7 +112,8 @@ impl Seat {
         }
     }
 
-    // ⌊e·k/σ⌋ of a seat whose clock has not passed its meta-period.
+    // ⌊e·k/σ⌋ of a seat whose clock has not passed its meta-period: no more runs than its plan has, so the cast
+    // loses nothing.
     pub(crate) fn due(self) -> u32
         requires { (1 ≤ self.plan.meta_period) × (self.elapsed ≤ self.plan.meta_period) }
         ensures { result ≡ due self }

@@ -1,4 +1,5 @@
-// Sums over the books.
+// Sums over the books. Each is a `for`: a partial sum is known to fit for the books' own seats alone, and a chain
+// with `sum` is bounded by whatever its closure may answer.
 ghost use Rattle.std.specs.Prelude.{◌≡◌, ◌*◌, ◌≤◌};
 ghost use Rattle.ledger.specs.Books.{extra, held, highest};
 ghost use Rattle.ledger.specs.Of.{books_of};
