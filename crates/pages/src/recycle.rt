@@ -1,4 +1,4 @@
-ghost use Rattle.std.specs.Prelude.{◌≡◌, ℕ, ◌+◌, ◌^◌, ◌<◌, length};
+ghost use Rattle.std.specs.Prelude.{◌≡◌, ℕ, ◌+◌, ◌^◌, ◌<◌};
 ghost use Rattle.history.specs.Work.{after_wipe};
 ghost use Rattle.pages.specs.Recycle.{added, CanEmpty, Empties, CanWipe, Wipes, CanRecycle, Recycles};
 
@@ -22,23 +22,19 @@ impl Emptied {
 }
 
 impl Tables {
-    // Copies every live page of a block out of it, in ascending order.
-    pub fn empty<C: Chip>(
-        &mut self,
-        chip: &mut C,
-        buffer: &mut [u8],
-        block: u16,
-    ) -> Result<Emptied, Refusal>
-        ensures { CanEmpty (C.Chip.means chip.old) self.old block (length buffer.old) → Empties (C.Chip.means chip.old) self.old block result (C.Chip.means chip.new) self.new }
+    // Copies every live page of a block out of it, in ascending order, through a buffer that takes any page.
+    pub fn empty<C: Chip>(&mut self, chip: &mut C, block: u16) -> Result<Emptied, Refusal>
+        ensures { CanEmpty (C.Chip.means chip.old) self.old block 512 → Empties (C.Chip.means chip.old) self.old block result (C.Chip.means chip.new) self.new }
     {
         if block >= self.geometry.blocks {
             return Err(Refusal::TablesDisagree);
         }
         let pages_per_block = self.geometry.pages_per_block;
         let first = block * pages_per_block;
+        let mut buffer = [0u8; 512];
         let mut done = Emptied::default();
         for i in 0..pages_per_block {
-            let made = self.copy_one(chip, buffer, block, first + i)?;
+            let made = self.copy_one(chip, &mut buffer, block, first + i)?;
             done = done.with(made);
         }
         Ok(done)
@@ -79,12 +75,11 @@ impl Tables {
     ) -> Result<Emptied, Refusal>
         ensures { (α : ℕ) → CanRecycle (C.Chip.means chip.old) self.old α → Recycles (C.Chip.means chip.old) self.old α result (C.Chip.means chip.new) self.new }
     {
-        let mut buffer = [0u8; 512];
         let blocks = self.geometry.blocks as usize;
         let block = chooser.choose(Question {
             dead: &self.dead[0..blocks],
         });
-        let done = self.empty(chip, &mut buffer, block)?;
+        let done = self.empty(chip, block)?;
         self.wipe(chip, block)?;
         Ok(done)
     }

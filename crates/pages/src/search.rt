@@ -36,26 +36,13 @@ impl Geometry {
     }
 }
 
-fn is_free<C: Chip>(chip: &mut C, page: u16) -> bool
-    ensures value { result ≡ is_free (page_at (C.Chip.means chip.old) page) }
-    ensures same { C.Chip.means chip.new ≡ C.Chip.means chip.old }
-{
-    matches!(chip.kind(page), Ok(Kind::Free))
-}
-
 impl Tables {
-    fn passed_over(&self, page: u16, skip: Option<u16>) -> bool
-        ensures { result ≡ over self.now.geometry.pages_per_block skip page }
-    {
-        skip == Some(self.geometry.block_of(page))
-    }
-
     // Whether a page is free and not passed over.
     fn may_take<C: Chip>(&self, chip: &mut C, page: u16, skip: Option<u16>) -> bool
         ensures value { result ≡ (not (over self.now.geometry.pages_per_block skip page) && is_free (page_at (C.Chip.means chip.old) page)) }
         ensures same { C.Chip.means chip.new ≡ C.Chip.means chip.old }
     {
-        !self.passed_over(page, skip) && is_free(chip, page)
+        skip != Some(self.geometry.block_of(page)) && matches!(chip.kind(page), Ok(Kind::Free))
     }
 
     // The first free page going up and round from where the search starts; the pages of one block may be

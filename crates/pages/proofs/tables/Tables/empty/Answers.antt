@@ -1,4 +1,4 @@
-use Rattle.std.proofs.Common.{◌≡◌, ◌+◌, ◌*◌, ◌<◌, ◌≤◌, length, sym, subst, arith}
+use Rattle.std.proofs.Common.{◌≡◌, ◌+◌, ◌*◌, ◌<◌, ◌≤◌, length, sym, subst, rules, arith}
 use Rattle.pages.specs.declared.emptied.Emptied.{Emptied}
 use Rattle.pages.specs.Copy.{CanCopy}
 use Rattle.pages.specs.Recycle.{EmptiedTo, added}
@@ -13,9 +13,10 @@ pub returns-in_err-made : goal.returns-in_err-made
 returns-in_err-made g c = λ can.
     let m = g.C.Chip.means c.args.chip.now in
     let n = g.C.Chip.means c.loop-i.chip in
+    let long : length c.loop-i.buffer ≡ 512 = search rules in
     let e = c.loop-i.invariant can in
-    let ready = can_copy m c.args.self.now c.args.block c.loop-i.i c.loop-i.done.copies c.loop-i.done.tries n c.loop-i.self e (omega arith) (length c.args.buffer.now) can in
-    absurd (c.in_err-made.ensures (subst (λ x. CanCopy n c.loop-i.self c.args.block (c.args.block * c.args.self.now.geometry.pages_per_block + c.loop-i.i) x) (sym c.loop-i.auto.buffer) ready))
+    let ready = can_copy m c.args.self.now c.args.block c.loop-i.i c.loop-i.done.copies c.loop-i.done.tries n c.loop-i.self e (omega arith) 512 can in
+    absurd (c.in_err-made.ensures (subst (λ x. CanCopy n c.loop-i.self c.args.block (c.args.block * c.args.self.now.geometry.pages_per_block + c.loop-i.i) x) (sym long) ready))
 
 pub loop-i-preserved : goal.loop-i-preserved
 loop-i-preserved g c = λ can.
@@ -23,13 +24,14 @@ loop-i-preserved g c = λ can.
     let t = c.args.self.now in
     let b = c.args.block in
     let n = g.C.Chip.means c.loop-i.chip in
+    let long : length c.loop-i.buffer ≡ 512 = search rules in
     let o = g.C.Chip.means c.copy_one.new.chip in
     let d = c.loop-i.done in
     let made = c.in_ok-made.made in
     let e = c.loop-i.invariant can in
     let within : c.loop-i.i < t.geometry.pages_per_block = omega arith in
-    let ready = can_copy m t b c.loop-i.i d.copies d.tries n c.loop-i.self e within (length c.args.buffer.now) can in
-    let done = c.in_ok-made.ensures (subst (λ x. CanCopy n c.loop-i.self b (b * t.geometry.pages_per_block + c.loop-i.i) x) (sym c.loop-i.auto.buffer) ready) in
+    let ready = can_copy m t b c.loop-i.i d.copies d.tries n c.loop-i.self e within 512 can in
+    let done = c.in_ok-made.ensures (subst (λ x. CanCopy n c.loop-i.self b (b * t.geometry.pages_per_block + c.loop-i.i) x) (sym long) ready) in
     let new = counted m t b c.loop-i.i d n c.loop-i.self made o c.copy_one.new.self e within done in
     let few = copies_few m t b c.loop-i.i d.copies d.tries n c.loop-i.self e within in
     let small : d.copies ≤ 31 = omega (arith, few, within, t.geometry.sized.3) in
