@@ -20,22 +20,6 @@ use crate::seat::{Seat, Status};
 use plan::Plan;
 
 impl Seat {
-    // The record of an empty seat.
-    pub(crate) const VACANT: Seat = Seat {
-        status: Status::Empty,
-        plan: Plan {
-            meta_period: 0,
-            writes: 0,
-            runs: 0,
-        },
-        account: 0,
-        collector: 0,
-        charge: 0,
-        out: 0,
-        elapsed: 0,
-        runs: 0,
-    };
-
     pub(crate) fn admitted(plan: Plan, collector: u32) -> Seat
         ensures { result ≡ seated plan collector }
     {
@@ -44,7 +28,7 @@ impl Seat {
             plan,
             account: plan.writes,
             collector,
-            ..Seat::VACANT
+            ..Seat::default()
         }
     }
 
@@ -156,7 +140,7 @@ impl Seat {
                 runs: 0,
                 ..self
             },
-            Status::OnNotice => Seat::VACANT,
+            Status::OnNotice => Seat::default(),
         }
     }
 }

@@ -42,7 +42,7 @@ impl Ledger {
         ensures { books_of result ≡ opened frame }
     {
         Ledger {
-            seats: [Seat::VACANT; SEATS],
+            seats: [Seat::default(); SEATS],
             pool: frame.pool,
             spare: frame.allowance,
             frame,

@@ -22,7 +22,7 @@ impl Ledger {
         self.seats
             .get(usize::from(seat))
             .copied()
-            .unwrap_or(Seat::VACANT)
+            .unwrap_or_default()
     }
 
     pub fn in_use(&self, seat: u8) -> bool

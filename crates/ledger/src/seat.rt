@@ -1,8 +1,9 @@
 use plan::Plan;
 
 // A seat is empty, serves a recording job, or is under notice: then it is emptied at its meta-period's end.
-#[derive(Clone, Copy, PartialEq, Eq, Debug)]
+#[derive(Clone, Copy, PartialEq, Eq, Debug, Default)]
 pub enum Status {
+    #[default]
     Empty,
     Serving,
     OnNotice,
@@ -11,7 +12,7 @@ pub enum Status {
 // The record of a seat: its plan, the tokens of its account and of its collector, and since the start of
 // its meta-period what was charged, the ticks that have passed and the runs that were made. `out` counts
 // the permits that were granted and are neither spent nor handed back.
-#[derive(Clone, Copy)]
+#[derive(Clone, Copy, Default)]
 pub struct Seat {
     pub status: Status,
     pub plan: Plan,

@@ -7,7 +7,7 @@ pub struct Job {
 
 // The plan of a seat: in each meta-period of so many ticks the seat may write so many pages,
 // and the collector makes so many runs for it.
-#[derive(Clone, Copy, PartialEq, Eq, Debug)]
+#[derive(Clone, Copy, PartialEq, Eq, Debug, Default)]
 pub struct Plan {
     pub meta_period: u32,
     pub writes: u32,
