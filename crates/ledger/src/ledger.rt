@@ -7,7 +7,7 @@ use crate::seat::Seat;
 pub(crate) const SEATS: usize = 8;
 
 // The books of a store: eight seats, the pool that they are admitted from, and the spare account that
-// pays for failed page writes.
+// pays for failed page writes. The seats are a table, since there is no heap.
 #[derive(Drop)]
 pub struct Ledger {
     pub(crate) seats: [Seat; SEATS],

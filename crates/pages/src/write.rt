@@ -59,6 +59,7 @@ impl Tables {
     ) -> Result<u32, Refusal>
         ensures { CanWrite (C.Chip.means chip.old) self.old skip label (length bytes.now) → Writes (C.Chip.means chip.old) self.old skip label bytes.now result (C.Chip.means chip.new) self.new }
     {
+        // Not over a range: how often a program may fail, the chip alone knows.
         let mut tries = 0;
         loop {
             let Some(page) = self.place(chip, skip) else {

@@ -16,7 +16,8 @@ use chooser::Chooser;
 use ledger::{Frame, Ledger, Refusal};
 use pages::{Geometry, Tables};
 
-// What an opening fixes on a chip of this shape.
+// What an opening fixes on a chip of this shape. Numbers, yield and pool come one by one, as the rules list them for
+// an opening: `Frame` is the struct that they go into.
 fn framed(shape: Shape, numbers: u32, alpha: u32, pool: u32) -> Frame
     ensures { (m : Meaning) → shape ≡ shape_of m → result ≡ frame_for m numbers alpha pool }
 {

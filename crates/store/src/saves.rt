@@ -49,6 +49,7 @@ impl<C: Chip, H: Chooser> Store<C, H> {
         let Permit { seat } = permit;
         let open = self.opened.as_mut().ok_or(Refusal::NotOpen)?;
         open.ledger.may_spend(seat)?;
+        // Not by `?`: a page that is refused hands the permit back first.
         if let Err(refusal) = open.takes_page(number, bytes.len()) {
             let _ = open.ledger.hand_back(seat);
             return Err(refusal);

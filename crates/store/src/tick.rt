@@ -39,6 +39,8 @@ impl Ticked {
     }
 }
 
+// Chip and chooser are lent to these side by side: a store has both while it is shut too, so `Open` holds neither,
+// and a struct of three borrows would be one more type for three private functions.
 impl Open {
     // One run for a seat: unless there are pages to spare, a block is recycled first; then the seat's account
     // gains the yield.
