@@ -15,7 +15,8 @@ const SIZE: Size = Size {
 
 const PAGES: u16 = SIZE.blocks * SIZE.pages_per_block;
 
-// One character for each page: free, spoiled or written.
+// One character for each page: free, spoiled or written. What prints is handed the handle and the chip side by side:
+// nothing else needs the two together.
 fn map<C: Chip>(rt: &HostRuntime, chip: &mut C) -> io::Result<()> {
     print!(rt; "map")?;
     for page in 0..PAGES {

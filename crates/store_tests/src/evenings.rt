@@ -5,7 +5,8 @@ use ledger::Refusal;
 use plan::Job;
 use store::Store;
 
-// Saves and their tries, then what the ticks did: runs, recycles, copies and their tries.
+// Saves and their tries, then what the ticks did: runs, recycles, copies and their tries. The program has such totals
+// of its own: to share them, a crate would have to stand between it and its tests.
 #[derive(Clone, Copy, PartialEq, Eq, Debug, Default)]
 struct Counts {
     saves: u32,
