@@ -21,7 +21,7 @@ impl Ledger {
         }
     }
 
-    // The books of a store that is shut: no tokens at all.
+    // Books with no tokens at all.
     pub fn idle() -> Ledger
         ensures { books_of result ≡ opened idle }
     {

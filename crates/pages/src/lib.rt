@@ -12,4 +12,4 @@ mod write;
 
 pub use emptied::Emptied;
 pub use geometry::Geometry;
-pub use tables::Tables;
+pub use tables::{MOST_BLOCKS, MOST_NUMBERS, Tables};

@@ -11,6 +11,7 @@ impl Tables {
     fn bury(&mut self, page: u16)
         ensures { Countable self.old page → self.new ≡ with_dead self.old (buried self.old page) }
     {
+        // By index, here and in `settle`: of `get_mut` a proof knows no element after the write.
         let block = self.geometry.block_of(page) as usize;
         if block < self.dead.len() {
             self.dead[block] = self.dead[block].saturating_add(1);

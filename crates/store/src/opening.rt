@@ -14,7 +14,7 @@ use crate::store::Store;
 use chip::{Chip, Shape};
 use chooser::Chooser;
 use ledger::{Frame, Ledger, Refusal};
-use pages::{Geometry, Tables};
+use pages::{Geometry, MOST_BLOCKS, MOST_NUMBERS, Tables};
 
 // What an opening fixes on a chip of this shape. Numbers, yield and pool come one by one, as the rules list them for
 // an opening: `Frame` is the struct that they go into.
@@ -68,8 +68,8 @@ fn fresh_tables(geometry: Geometry) -> Tables
     ensures { (m : Meaning) → geometry.blocks ≡ m.blocks → geometry.pages_per_block ≡ m.per_block → FreshTables m result }
 {
     Tables {
-        map: [None; 1920],
-        dead: [0; 64],
+        map: [None; MOST_NUMBERS],
+        dead: [0; MOST_BLOCKS],
         free: geometry.pages(),
         start: 0,
         geometry,
