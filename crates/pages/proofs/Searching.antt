@@ -1,20 +1,11 @@
 -- The steps of the search for a free page, over plain values.
-use Rattle.std.proofs.Common.{◌≡◌, ℕ, ◌+◌, ◌-◌, ◌<◌, Bool, true, false, not, ◌&&◌, List, length, get_or, Err, sym, ap, ◌∙◌, inl, inr, arith, below_more}
-use Rattle.std.proofs.lemmas.List.{get_or_default, get_or_past}
+use Rattle.std.proofs.Common.{◌≡◌, ℕ, ◌+◌, ◌-◌, ◌<◌, Bool, true, false, not, ◌&&◌, List, length, get_or, sym, ap, ◌∙◌, inl, inr, arith, below_more}
+use Rattle.std.proofs.lemmas.List.{get_or_default}
 use Rattle.std.proofs.lemmas.Bool.{cases_lt}
 use Rattle.std.proofs.lemmas.Bool.Decides.{nat_tests}
-use Rattle.chip.specs.declared.words.Refusal.{Refusal}
-use Rattle.chip.specs.Meaning.{Page, free, spoiled, Meaning, page_at}
-use Rattle.chip.specs.Calls.{is_free, kind_told}
+use Rattle.chip.specs.Meaning.{Page, free, spoiled}
+use Rattle.chip.specs.Calls.{is_free}
 use Rattle.history.specs.Work.{next_page, round}
-
--- a page that is not there is not free
-pub not_there : (m : Meaning) (q : ℕ) (e : Refusal) → Err e ≡ kind_told m q → false ≡ is_free (page_at m q)
-not_there m q e told =
-    elim (cases_lt q (length m.pages)) [
-      | inl there ↦ (let z : ◌≡◌ {A = ℕ} 0 1 = grind (arith, nat_tests) in absurd (omega arith))
-      | inr past ↦ sym (ap is_free (get_or_past m.pages q spoiled past))
-    ]
 
 and_false : (a b : Bool) → (not a && b) ≡ false → a ≡ false → b ≡ false
 and_false true b h e = absurd (let z : ◌≡◌ {A = ℕ} 0 1 = cc in omega arith)

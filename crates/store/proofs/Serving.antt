@@ -3,7 +3,7 @@ use Rattle.std.proofs.Common.{◌≡◌, ℕ, ◌+◌, ◌-◌, ◌*◌, ◌<◌
 use Rattle.std.proofs.lemmas.Bool.{cases_Bool, cond-true, cond-false}
 use Rattle.chip.specs.Meaning.{Meaning}
 use Rattle.ledger.specs.declared.ledger.Ledger.{Ledger}
-use Rattle.ledger.specs.Books.{Books, seat_of, tokens, used_seat, entered, ended}
+use Rattle.ledger.specs.Books.{Books, seat_of, used_seat, entered, ended}
 use Rattle.ledger.specs.Of.{books_of}
 use Rattle.ledger.specs.Steps.{stepped, owes}
 use Rattle.ledger.specs.Settled.{Settled, SettledBut}
@@ -19,22 +19,8 @@ use Rattle.store.specs.declared.ticked.Ticked.{Ticked}
 use Rattle.store.specs.State.{SoundAt}
 use Rattle.store.specs.Tick.{Walk, unused, enters, ends}
 use Rattle.store.specs.Effects.{desk_of}
+use Rattle.store.proofs.Booking.{sound_at}
 use Rattle.store.specs.Walking.{Few, Between, CanRun, Ran, CanServe, Served, Begun, Midway, Walked}
-
--- books with the same frame and spare account, and no more tokens
-pub sound_with : (m : Meaning) (b c : Books) (t : _) → SoundAt m b t → c.frame ≡ b.frame → c.spare ≡ b.spare → tokens c ≤ tokens b → SoundAt m c t
-sound_with m b c t s frame spare fewer =
-    record {
-      tied = s.tied;
-      shape = s.shape;
-      blocks = ap (λ f. f.blocks) frame ∙ s.blocks;
-      per_block = ap (λ f. f.pages_per_block) frame ∙ s.per_block;
-      page_size = ap (λ f. f.page_size) frame ∙ s.page_size;
-      numbers = omega (arith, ap (λ f. f.numbers) frame, s.numbers);
-      labels = λ l q named. omega (arith, ap (λ f. f.numbers) frame, s.labels l q named);
-      spare = omega (arith, spare, s.spare);
-      room = omega (arith, fewer, s.room);
-    }
 
 pub few_more : (n p : ℕ) (k : Ticked) (m : Meaning) → n ≤ p → Few n k m → Few p k m
 few_more n p k m more few =
@@ -119,8 +105,7 @@ module _ {H : Type 0} where
             between =
                 record {
                   sound =
-                      sound_with t.chip (books_of t.ledger) (books_of c) t.tables y.between.sound (ap (λ a. a.frame) close) (ap (λ a. a.spare) close)
-                      (end_keeps fair i close none);
+                      sound_at refl refl (ap (λ a. a.frame) close) (ap (λ a. a.spare) close) (end_keeps fair i close none) y.between.sound;
                   few = few_more (n + due) (n + 1024) l t.chip (omega (arith, g.some)) y.between.few;
                   failed = y.between.failed;
                   sizes = y.between.sizes;
@@ -171,8 +156,7 @@ module _ {H : Type 0} (n i : ℕ) (k : Ticked) (s : Standing H) (can : CanServe 
   begun_so owed is =
       record {
         sound =
-            sound_with s.chip (books_of s.ledger) (books_of e) s.tables can.sound (ap (λ a. a.frame) entered_so) (ap (λ a. a.spare) entered_so)
-            (omega (arith, step_keeps (fair_of s.ledger) i step));
+            sound_at refl refl (ap (λ a. a.frame) entered_so) (ap (λ a. a.spare) entered_so) (omega (arith, step_keeps (fair_of s.ledger) i step)) can.sound;
         few = can.few;
         little = can.little;
         some = omega (arith, is, few_due);
