@@ -1,26 +1,17 @@
 -- A whole tick.
 use Rattle.std.proofs.Common.{◌≡◌, ℕ, true, false, [], Ok, Err, Result, sym, ◌∙◌, subst, arith}
 use Rattle.std.proofs.lemmas.Bool.{true≢false}
-use Rattle.chip.specs.Meaning.{Shaped}
 use Rattle.ledger.specs.declared.refusal.Refusal.{Refusal}
 use Rattle.ledger.specs.Of.{books_of}
 use Rattle.history.specs.History.{History}
-use Rattle.pages.proofs.Writing.{few_failures}
 use Rattle.store.specs.declared.ticked.Ticked.{Ticked}
 use Rattle.store.specs.State.{Standing, OpenSound}
 use Rattle.store.specs.Tick.{Walk, begun}
 use Rattle.store.specs.Effects.{desk_of, Passed, Ticks}
 use Rattle.store.specs.Walking.{Walked}
 use Rattle.store.proofs.Booking.{sound_open, open_sound}
-use Rattle.store.proofs.Serving.{walked_none}
 
 module _ {H : Type 0} where
-  pub walked_begun : (s : Standing H) → OpenSound s → Shaped s.chip
-      → Walked (record { runs = 0; recycles = 0; copies = 0; tries = 0 }) s 0 (record { runs = 0; recycles = 0; copies = 0; tries = 0 }) s
-  walked_begun s sound shaped =
-      walked_none (record { runs = 0; recycles = 0; copies = 0; tries = 0 }) s sound.at sound.settled
-      (record { runs = omega arith; recycles = omega arith; copies = omega arith; tries = omega (arith, few_failures s.chip shaped) })
-
   pub passed_all : (s : Standing H) → s.is_open ≡ true → (done : ℕ) (l : Ticked) (t : Standing H) → done ≡ 8 → Walked (record { runs = 0; recycles = 0; copies = 0; tries = 0 }) s done l t
       → (h : History) → ((h' : History) × Passed s l h h' t)
   passed_all s opened done l t all y h =

@@ -6,7 +6,7 @@ use Rattle.chip.specs.Meaning.{Meaning}
 use Rattle.ledger.specs.declared.ledger.Ledger.{Ledger}
 use Rattle.ledger.specs.declared.refusal.Refusal.{Refusal}
 use Rattle.ledger.specs.declared.refusal.Refusal.TheVariants.{NotOpen, NoSuchNumber, DataTooLong}
-use Rattle.ledger.specs.Books.{Books, answer, unless, asks_return, spent, paid}
+use Rattle.ledger.specs.Books.{Books, answer, unless, asks_return, spent}
 use Rattle.ledger.specs.Fair.{FairBooks}
 use Rattle.ledger.specs.Of.{books_of}
 use Rattle.ledger.specs.Settled.{Settled}
@@ -29,14 +29,6 @@ use Rattle.store.specs.Effects.{asks_page, asks_save, and_then, if_open, Saves}
 use Rattle.store.proofs.Booking.{sound_open, opened_sound, from_open, open_sound}
 
 -- ---- what the spare account pays
-
-pub paid_none : (b : Books) → b ≡ paid_for 0 b
-paid_none b = ap (λ x. record { seats = b.seats; pool = b.pool; spare = x; frame = b.frame }) (let e : b.spare ≡ b.spare - 0 = omega arith in e)
-
-pub paid_more : (n : ℕ) (b c d : Books) → c ≡ paid_for n b → d ≡ paid c → d ≡ paid_for (n + 1) b
-paid_more n b c d so more =
-    let e : b.spare - n - 1 ≡ b.spare - (n + 1) = omega arith in
-    more ∙ ap paid so ∙ ap (λ x. record { seats = b.seats; pool = b.pool; spare = x; frame = b.frame }) e
 
 -- ---- what the questions say
 

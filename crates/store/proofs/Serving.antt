@@ -30,10 +30,6 @@ same_size_on : (m n o : Meaning) → SameSize m n → SameSize n o → SameSize 
 same_size_on m n o a b = record { blocks = b.blocks ∙ a.blocks; per_block = b.per_block ∙ a.per_block; page_size = b.page_size ∙ a.page_size }
 
 module _ {H : Type 0} where
-  pub between_none : (n : ℕ) (k : Ticked) (s : Standing H) → SoundAt s.chip (books_of s.ledger) s.tables → Few n k s.chip → Between n k s k s
-  between_none n k s sound few =
-      record { sound = sound; few = few; failed = omega arith; sizes = record { blocks = refl; per_block = refl; page_size = refl }; is_open = refl }
-
   between_on : (n p : ℕ) (k l j : Ticked) (s t u : Standing H) → Between n k s l t → Between p l t j u → Between p k s j u
   between_on n p k l j s t u a b =
       record {
@@ -45,10 +41,6 @@ module _ {H : Type 0} where
       }
 
   -- ---- the runs of one seat
-
-  pub midway_none : (n i due : ℕ) (k : Ticked) (s : Standing H) → Begun n i k s due → Midway n i k s 0 k s
-  midway_none n i due k s g =
-      record { between = between_none (n + 0) k s g.sound (few_more n (n + 0) k s.chip (omega arith) g.few); goes = λ b x h w. (h, w); owing = omega arith; but = g.but }
 
   module _ (n i due done : ℕ) (k : Ticked) (s : Standing H) (g : Begun n i k s due) (l : Ticked) (t : Standing H) (y : Midway n i k s done l t) (more : done < due) where
     pub midway_can : CanRun (n + done) i l t
@@ -118,10 +110,6 @@ module _ {H : Type 0} where
           }
 
   -- ---- the seats of a tick
-
-  pub walked_none : (k : Ticked) (s : Standing H) → SoundAt s.chip (books_of s.ledger) s.tables → Settled (books_of s.ledger) → Few 0 k s.chip → Walked k s 0 k s
-  walked_none k s sound settled few =
-      record { between = between_none (1024 * 0) k s sound (few_more 0 (1024 * 0) k s.chip (omega arith) few); goes = λ b x h w. (h, w); settled = settled }
 
   module _ (k : Ticked) (s : Standing H) (done : ℕ) (l : Ticked) (t : Standing H) (y : Walked k s done l t) (more : done < 8) where
     pub walked_can : CanServe (1024 * done) done l t
