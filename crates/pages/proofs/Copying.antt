@@ -1,7 +1,7 @@
 -- A copy of a page, over plain values.
-use Rattle.std.proofs.Common.{◌≡◌, ℕ, ◌-◌, ◌<◌, ◌≤◌, true, false, ◌&&◌, ltb, leb, List, length, take, drop, Some, None, Ok, Err, Option, Result, sym, refl, ap, ◌∙◌, subst, inl, inr, arith}
-use Rattle.std.proofs.lemmas.List.{get_or_default, get_or_past, take_at}
-use Rattle.std.proofs.lemmas.Bool.{cases_Bool, cases_lt, cond-true, cond-false}
+use Rattle.std.proofs.Common.{◌≡◌, ℕ, ◌-◌, ◌<◌, ◌≤◌, true, ◌&&◌, ltb, leb, List, length, take, drop, Some, None, Ok, Err, Option, Result, sym, refl, ap, ◌∙◌, subst, inl, inr, arith}
+use Rattle.std.proofs.lemmas.List.{get_or_default, take_at}
+use Rattle.std.proofs.lemmas.Bool.{cases_lt, cond-true, cond-false}
 use Rattle.std.proofs.lemmas.Bool.Decides.{nat_tests}
 use Rattle.chip.specs.declared.words.Refusal.{Refusal}
 use Rattle.chip.specs.declared.words.Refusal.TheVariants.{NotThere, TooLong}
@@ -9,19 +9,10 @@ use Rattle.chip.specs.Meaning.{Page, free, spoiled, written, Meaning, page_at}
 use Rattle.chip.specs.Calls.{fetched_page, fetched, in_front, data_of, fetched_into}
 use Rattle.ledger.specs.declared.refusal.Refusal.{Refusal as StoreRefusal}
 use Rattle.history.specs.Pages.{names, is_live}
-use Rattle.history.proofs.Counts.{live_named}
 use Rattle.pages.specs.declared.tables.Tables.{Tables}
-use Rattle.pages.specs.Tied.{maps_of, page_in, Tied}
+use Rattle.pages.specs.Tied.{maps_of, page_in}
 use Rattle.pages.specs.Write.{CanWrite, Writes}
 use Rattle.pages.specs.Copy.{live_in, CanCopy, Copies}
-
--- a label past the map names nothing
-pub unnamed : (t : Tables) (l q : ℕ) → length t.map ≡ 1920 → false ≡ (ltb l 1920 && names (maps_of t l) q) → names (maps_of t l) q ≡ false
-unnamed t l q long told =
-    elim (cases_lt l 1920) [
-      | inl known ↦ (let e : ltb l 1920 ≡ true = grind (arith, nat_tests) in sym (told ∙ ap (λ x. x && names (maps_of t l) q) e))
-      | inr past ↦ ap (λ o. names o q) (get_or_past t.map l None (omega arith))
-    ]
 
 pub named : (t : Tables) (l q : ℕ) → true ≡ (ltb l 1920 && names (maps_of t l) q) → (l < 1920) × (names (maps_of t l) q ≡ true)
 named t l q told = (grind (arith, nat_tests), grind (arith, nat_tests))
@@ -35,21 +26,8 @@ fetched_there : (m : Meaning) (q room : ℕ) → q < length m.pages → fetched 
 fetched_there m q room there =
     cond-true (ltb q (length m.pages)) (fetched_page (page_at m q) room) (Err NotThere) (grind (arith, nat_tests)) ∙ ap (λ x. fetched_page x room) (there_page m q there)
 
-fetched_live : (m : Meaning) (q room l : ℕ) (d : List ℕ) → q < length m.pages → page_in m.pages q ≡ written l d → length d ≤ room → fetched m q room ≡ Ok (l, length d)
-fetched_live m q room l d there is fits =
-    fetched_there m q room there ∙ ap (λ x. fetched_page x room) is ∙ cond-true (leb (length d) room) (Ok (l, length d)) (Err TooLong) (grind (arith, nat_tests))
-
 clash : {X : Type 0} (e : Refusal) (x : X) → ◌≡◌ {A = Result X Refusal} (Err e) (Ok x) → ⊥
 clash e x h = let z : ◌≡◌ {A = ℕ} 0 1 = cc in omega arith
-
--- a page that cannot be fetched is not live
-pub unfetched_dead : (m : Meaning) (t : Tables) (q room : ℕ) (e : Refusal) → Tied m.page_size m.pages t → m.page_size ≤ room → Err e ≡ fetched m q room → live_in m t q ≡ false
-unfetched_dead m t q room e tied wide told =
-    elim (cases_Bool (live_in m t q)) [
-      | inl live ↦ (let w = live_named (maps_of t) q (page_in m.pages q) live in let k = tied.labelled w.0 q w.3 in
-          absurd (clash e (w.0, length k.1.0) (told ∙ fetched_live m q room w.0 k.1.0 k.0 k.1.1 (omega (arith, k.1.2)))))
-      | inr dead ↦ dead
-    ]
 
 pub record Told (m : Meaning) (q room l size : ℕ) : Type 0 where
   pub bytes : List ℕ

@@ -94,9 +94,6 @@ module _ (m : Meaning) (t : Tables) (b copies tries : ℕ) (n : Meaning) (u : Ta
   held_same = tally_same (λ q. is_free (page_in n.pages q)) (λ q. is_free (page_in m.pages q)) (b * per_block t) (per_block t) (λ q low high. ap is_free (copying.same q low high))
 
   module _ (α : ℕ) (worth : α ≤ dead_count m t b) where
-    chip_so : Meaning
-    chip_so = with_block_free n b
-
     pages_so : (with_block_free n b).pages ≡ wiped (per_block t) b n.pages
     pages_so = ap (λ p. wiped p b n.pages) (e.sizes.per_block ∙ shape.pages)
 

@@ -99,9 +99,6 @@ module _ {most : ℕ} {pages : List Page} {t : Tables} (k : Tied most pages t) w
             ]
 
     module _ (l : ℕ) (d : List ℕ) (known : l < 1920) (small : length d ≤ most) where
-      now_maps : ℕ → Option ℕ
-      now_maps = maps_of (settled t l q)
-
       mapped : maps_of (settled t l q) l ≡ Some q
       mapped = get_or-set_same t.map l (Some q) None (omega (arith, k.numbers))
 

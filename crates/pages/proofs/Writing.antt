@@ -1,11 +1,8 @@
 -- The steps of the loop of tries, over plain values.
 use Rattle.std.proofs.Common.{◌≡◌, ℕ, suc, ◌+◌, ◌-◌, ◌*◌, ◌/◌, ◌<◌, ◌≤◌, true, false, ◌⊎◌, List, ◌∷◌, length, get_or, set, Some, None, Ok, Option, sym, refl, ap, ◌∙◌, subst, inl, inr, add-one, arith, length-set, get_or-set_other, get_or-set_same}
-use Rattle.std.proofs.lemmas.List.{get_or_default}
 use Rattle.std.proofs.lemmas.Bool.{both_ways, eqb-false, ne_eqb}
-use Rattle.std.proofs.lemmas.Bool.Decides.{nat_tests}
-use Rattle.chip.specs.declared.words.Refusal.{Refusal}
-use Rattle.chip.specs.Meaning.{Page, free, spoiled, Meaning, Shaped, page_at}
-use Rattle.chip.specs.Calls.{is_free, asks_program, programmed, Programmed}
+use Rattle.chip.specs.Meaning.{Page, spoiled, Meaning, Shaped}
+use Rattle.chip.specs.Calls.{is_free, programmed, Programmed}
 use Rattle.history.specs.Pages.{frees}
 use Rattle.history.specs.History.{History, programmed as entry}
 use Rattle.history.specs.Work.{Place, next_page, in_block, Tried, none, again}
@@ -60,16 +57,6 @@ some_place u (Some b) pages tied skips room closed =
 
 pub trying_stuck : (n : Meaning) (u : Tables) (skip : Option ℕ) (l size : ℕ) → CanWrite n u skip l size → Found (over u.geometry.pages_per_block skip) n.pages u.start None → ⊥
 trying_stuck n u skip l size can found = some_place u skip n.pages can.tied can.skips (omega (arith, can.room)) found
-
--- a chip takes a program at its place
-pub trying_refused : (n : Meaning) (u : Tables) (skip : Option ℕ) (l size q : ℕ) (e : Refusal) → CanWrite n u skip l size → Place (over u.geometry.pages_per_block skip) n.pages u.start q
-    → asks_program n q size ≡ Some e → ⊥
-trying_refused n u skip l size q e can p asked =
-    let there = p.there in
-    let fits = can.fits in
-    let room : is_free (page_at n q) ≡ true = ap is_free (get_or_default n.pages q spoiled free p.there ∙ p.room) in
-    let z : ◌≡◌ {A = ℕ} 0 1 = grind (arith, nat_tests, room) in
-    omega (arith, z)
 
 -- ---- one try more
 

@@ -1,5 +1,5 @@
 -- A call on the ledger alone leaves the store sound. Assumes nothing.
-use Rattle.std.proofs.Common.{◌≡◌, ◌<◌, ◌≤◌, true, Some, None, MatchBool, Option, sym, refl, ap, ◌∙◌, subst}
+use Rattle.std.proofs.Common.{◌≡◌, ◌<◌, ◌≤◌, true, Some, None, MatchBool, Option, sym, refl, ap, ◌∙◌, subst, arith}
 use Rattle.chip.specs.Meaning.{Meaning}
 use Rattle.ledger.specs.declared.frame.Frame.{Frame}
 use Rattle.ledger.specs.declared.refusal.Refusal.{Refusal}
@@ -8,14 +8,13 @@ use Rattle.ledger.specs.Books.{Books, tokens, unless}
 use Rattle.ledger.specs.Keeps.{Keeps}
 use Rattle.ledger.specs.Of.{books_of}
 use Rattle.pages.specs.declared.tables.Tables.{Tables}
-use Rattle.pages.specs.Recycle.{all_free}
 use Rattle.store.specs.declared.open.Open.{Open}
 use Rattle.store.specs.State.{SoundAt, Standing, standing, OpenSound, Sound}
 use Rattle.store.specs.Effects.{if_open, SameButBooks, Booked}
 
--- other books with the same frame, as much in the spare account and as many tokens
-pub sound_at : {m n : Meaning} {b c : Books} {t u : Tables} → n ≡ m → u ≡ t → c.frame ≡ b.frame → c.spare ≡ b.spare → tokens c ≡ tokens b → SoundAt m b t → SoundAt n c u
-sound_at {m} {n} {b} {c} {t} {u} chip tables frame spare same at =
+-- other books with the same frame, as much in the spare account and no more tokens
+pub sound_at : {m n : Meaning} {b c : Books} {t u : Tables} → n ≡ m → u ≡ t → c.frame ≡ b.frame → c.spare ≡ b.spare → tokens c ≤ tokens b → SoundAt m b t → SoundAt n c u
+sound_at {m} {n} {b} {c} {t} {u} chip tables frame spare fewer at =
     subst (λ (x : Meaning). SoundAt x c u) (sym chip)
     (subst (λ (x : Tables). SoundAt m c x) (sym tables)
     (record {
@@ -27,7 +26,7 @@ sound_at {m} {n} {b} {c} {t} {u} chip tables frame spare same at =
       numbers = subst (λ (f : Frame). f.numbers ≤ 1920) (sym frame) at.numbers;
       labels = λ l q named. subst (λ (f : Frame). l < f.numbers) (sym frame) (at.labels l q named);
       spare = subst (λ x. m.allowance ≤ x) (sym spare) at.spare;
-      room = subst (λ x. x ≤ all_free m) (sym same) at.room;
+      room = omega (arith, fewer, at.room);
     }))
 
 module _ {H : Type 0} (s : Standing H) where
@@ -42,7 +41,7 @@ module _ {H : Type 0} {s t : Standing H} where
       → Keeps (books_of s.ledger) (books_of t.ledger) → Sound s → Sound t
   sound_on is rest frame spare keeps sound =
       let o = sound_open s is sound in
-      open_sound t (rest.is_open ∙ is) (record { at = sound_at rest.chip rest.tables frame spare keeps.same_tokens o.at; settled = keeps.settled o.settled })
+      open_sound t (rest.is_open ∙ is) (record { at = sound_at rest.chip rest.tables frame spare (omega (arith, keeps.same_tokens)) o.at; settled = keeps.settled o.settled })
 
   pub booked : (q : Option Refusal) (after : Books) → s.is_open ≡ true → SameButBooks s t → books_of t.ledger ≡ unless q after (books_of s.ledger)
       → after.frame ≡ (books_of s.ledger).frame → after.spare ≡ (books_of s.ledger).spare → Keeps (books_of s.ledger) (books_of t.ledger) → Booked s q after t
@@ -77,11 +76,3 @@ module _ {H : Type 0} {m : Meaning} {c : H} {was : Option Open} {o : Open} (is :
       let t = standing m c (Some (record { ledger = l; tables = o.tables })) in
       let rest : SameButBooks s t = record { chip = refl; chooser = refl; is_open = refl; tables = refl } in
       (booked q after refl rest made frame spare keeps).sound opened_sound
-
-module _ {H : Type 0} (s : Standing H) where
-  -- the same store with another ledger
-  abbrev pub with_ledger : Ledger → Standing H
-  with_ledger l = record { chip = s.chip; chooser = s.chooser; is_open = s.is_open; ledger = l; tables = s.tables }
-
-  pub beside : (l : Ledger) → SameButBooks s (with_ledger l)
-  beside l = record { chip = refl; chooser = refl; is_open = refl; tables = refl }

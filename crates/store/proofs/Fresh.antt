@@ -1,12 +1,12 @@
 -- An opening, over plain values. Assumes nothing.
-use Rattle.std.proofs.Common.{◌≡◌, ℕ, ◌+◌, ◌*◌, ◌<◌, ◌≤◌, Bool, true, false, cond, not, ◌&&◌, ltb, leb, length, get_or, replicate, Some, None, Ok, Err, Option, Result, sym, refl, ap, ◌∙◌, subst, inl, inr, mul-le-mul_right, mul-le-mul, zero-mul, arith}
+use Rattle.std.proofs.Common.{◌≡◌, ℕ, ◌+◌, ◌*◌, ◌<◌, ◌≤◌, Bool, true, false, cond, not, ◌&&◌, leb, length, get_or, replicate, Some, None, Ok, Err, Option, Result, sym, refl, ap, ◌∙◌, subst, inl, inr, mul-le-mul_right, mul-le-mul, arith}
 use lib.ListN.{length-replicate, get_or-replicate}
 use Rattle.std.specs.Option.{option_map}
 use Rattle.std.proofs.lemmas.List.{get_or_past}
-use Rattle.std.proofs.lemmas.Bool.{cases_lt, cond-true, lt-ltb, ltb-true, le-leb, leb-true, and_parts, and_from, not-true}
+use Rattle.std.proofs.lemmas.Bool.{cases_lt, cond-true, ltb-true, le-leb, leb-true, and_parts, and_from, not-true}
 use Rattle.chip.specs.Meaning.{free, Meaning, Shaped}
 use Rattle.chip.specs.declared.words.Shape.{Shape}
-use Rattle.chip.specs.Calls.{shape_of, is_free, with_block_free, erased}
+use Rattle.chip.specs.Calls.{shape_of, is_free}
 use Rattle.plan.specs.Yield.{yield_rule}
 use Rattle.ledger.specs.declared.frame.Frame.{Frame}
 use Rattle.ledger.specs.declared.ledger.Ledger.{Ledger}
@@ -20,7 +20,7 @@ use Rattle.ledger.proofs.Answered.{asked}
 use Rattle.ledger.proofs.Settles.{opened_settled}
 use Rattle.history.specs.Pages.{is_dead, frees}
 use Rattle.history.proofs.Tally.{tally_none, tally_all}
-use Rattle.history.proofs.Chip.{block_fits, length_wiped, wiped_below, all_free as all_are_free}
+use Rattle.history.proofs.Chip.{all_free as all_are_free}
 use Rattle.pages.specs.declared.tables.Tables.{Tables}
 use Rattle.pages.specs.Tied.{maps_of, page_in, Tied}
 use Rattle.pages.specs.Recycle.{all_free}
@@ -48,24 +48,6 @@ pub record ErasedTo (m n : Meaning) (b : ℕ) : Type 0 where
   pub allowance : n.allowance ≡ m.allowance
   pub long : length n.pages ≡ length m.pages
   pub below : (k : ℕ) → k < b * n.per_block → page_in n.pages k ≡ free
-
-pub erased_none : (m : Meaning) → ErasedTo m m 0
-erased_none m =
-    record { blocks = refl; per_block = refl; page_size = refl; allowance = refl; long = refl; below = λ k within. absurd (let z = zero-mul m.per_block in omega (arith, z, within)) }
-
-pub erased_more : (m n o : Meaning) (b : ℕ) → Shaped n → b < m.blocks → ErasedTo m n b → o ≡ erased n b → ErasedTo m o (b + 1)
-erased_more m n o b shaped there e is =
-    let within : b < n.blocks = omega (arith, e.blocks) in
-    let so : o ≡ with_block_free n b = is ∙ cond-true (ltb b n.blocks) (with_block_free n b) n (lt-ltb b n.blocks within) in
-    let fits : b * n.per_block + n.per_block ≤ length n.pages = omega (arith, block_fits n.per_block b n.blocks within, shaped_long n shaped) in
-    subst (λ (x : Meaning). ErasedTo m x (b + 1)) (sym so) (record {
-      blocks = e.blocks;
-      per_block = e.per_block;
-      page_size = e.page_size;
-      allowance = e.allowance;
-      long = length_wiped n.per_block b n.pages fits ∙ e.long;
-      below = wiped_below n.per_block b n.pages fits e.below;
-    })
 
 pub erased_all : (m n : Meaning) → Shaped m → ErasedTo m n m.blocks → n ≡ blank m
 erased_all m n shaped e =

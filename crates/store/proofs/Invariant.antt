@@ -23,6 +23,7 @@ use Rattle.pages.specs.Tied.{maps_of}
 use Rattle.store.specs.State.{Standing}
 use Rattle.store.specs.State.{SoundAt, OpenSound, Sound}
 use Rattle.store.specs.Effects.{if_open, ledger_asks, SameButBooks, Same, Booked}
+use Rattle.store.proofs.Booking.{sound_open, open_sound}
 
 pub record Plain (e : Entry) : Type 0 where
   pub call : is_call e ≡ true
@@ -52,12 +53,6 @@ module _ {H : Type 0} where
 
   pub shut_inv : (h : History) (s : Standing H) → s.is_open ≡ false → ShutPromise h → Inv h s
   shut_inv h s is inv = subst (λ o. MatchBool o (OpenInv h s) (ShutPromise h)) (sym is) inv
-
-  pub sound_open : (s : Standing H) → s.is_open ≡ true → Sound s → OpenSound s
-  sound_open s is sound = subst (λ o. MatchBool o (OpenSound s) (Unit {0})) is sound
-
-  pub open_sound : (s : Standing H) → s.is_open ≡ true → OpenSound s → Sound s
-  open_sound s is sound = subst (λ o. MatchBool o (OpenSound s) (Unit {0})) (sym is) sound
 
   -- the ledger keeps these at all times
   pub eight_seats : (s : Standing H) → length (books_of s.ledger).seats ≡ 8

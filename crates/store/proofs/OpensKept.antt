@@ -19,7 +19,8 @@ use Rattle.store.specs.State.{Standing}
 use Rattle.store.specs.State.{frame_for, Sound}
 use Rattle.store.specs.Effects.{asks_open, Opened, Opens, Same, Ticks}
 use Rattle.store.specs.Calls.{entry_open, erases, entry_tick}
-use Rattle.store.proofs.Invariant.{Inv, inv_open, inv_shut, open_inv, shut_call, sound_open, same_inv}
+use Rattle.store.proofs.Booking.{sound_open}
+use Rattle.store.proofs.Invariant.{Inv, inv_open, inv_shut, open_inv, shut_call, same_inv}
 
 -- a list of one thing has it everywhere
 filled : {X : Type 0} (x : X) (n i : ℕ) → get_or (replicate n x) i x ≡ x

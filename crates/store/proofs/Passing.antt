@@ -1,31 +1,17 @@
 -- A whole tick.
-use Rattle.std.proofs.Common.{◌≡◌, ℕ, true, false, [], Ok, Err, Result, MatchBool, sym, ◌∙◌, subst, arith}
+use Rattle.std.proofs.Common.{◌≡◌, ℕ, true, false, [], Ok, Err, Result, sym, ◌∙◌, subst, arith}
 use Rattle.std.proofs.lemmas.Bool.{true≢false}
-use Rattle.chip.specs.Meaning.{Shaped}
 use Rattle.ledger.specs.declared.refusal.Refusal.{Refusal}
 use Rattle.ledger.specs.Of.{books_of}
 use Rattle.history.specs.History.{History}
-use Rattle.pages.proofs.Writing.{few_failures}
 use Rattle.store.specs.declared.ticked.Ticked.{Ticked}
-use Rattle.store.specs.State.{Standing, OpenSound, Sound}
+use Rattle.store.specs.State.{Standing, OpenSound}
 use Rattle.store.specs.Tick.{Walk, begun}
 use Rattle.store.specs.Effects.{desk_of, Passed, Ticks}
 use Rattle.store.specs.Walking.{Walked}
-use Rattle.store.proofs.Serving.{walked_none}
+use Rattle.store.proofs.Booking.{sound_open, open_sound}
 
 module _ {H : Type 0} where
-  pub open_of : (s : Standing H) → s.is_open ≡ true → Sound s → OpenSound s
-  open_of s opened sound = subst (λ b. MatchBool b (OpenSound s) (Unit {0})) opened sound
-
-  pub sound_of : (s : Standing H) → s.is_open ≡ true → OpenSound s → Sound s
-  sound_of s opened sound = subst (λ b. MatchBool b (OpenSound s) (Unit {0})) (sym opened) sound
-
-  pub walked_begun : (s : Standing H) → OpenSound s → Shaped s.chip
-      → Walked (record { runs = 0; recycles = 0; copies = 0; tries = 0 }) s 0 (record { runs = 0; recycles = 0; copies = 0; tries = 0 }) s
-  walked_begun s sound shaped =
-      walked_none (record { runs = 0; recycles = 0; copies = 0; tries = 0 }) s sound.at sound.settled
-      (record { runs = omega arith; recycles = omega arith; copies = omega arith; tries = omega (arith, few_failures s.chip shaped) })
-
   pub passed_all : (s : Standing H) → s.is_open ≡ true → (done : ℕ) (l : Ticked) (t : Standing H) → done ≡ 8 → Walked (record { runs = 0; recycles = 0; copies = 0; tries = 0 }) s done l t
       → (h : History) → ((h' : History) × Passed s l h h' t)
   passed_all s opened done l t all y h =
@@ -37,11 +23,11 @@ module _ {H : Type 0} where
           failed = omega (arith, y.between.failed);
           sizes = y.between.sizes;
           walk = subst (λ i. Walk (books_of s.ledger) (desk_of h s) i false l.runs l.recycles l.copies l.tries (books_of t.ledger) (desk_of v.0 t)) all v.1;
-          sound = sound_of t (y.between.is_open ∙ opened) (record { at = y.between.sound; settled = y.settled });
+          sound = open_sound t (y.between.is_open ∙ opened) (record { at = y.between.sound; settled = y.settled });
         },
       )
 
   -- an open store is sound after its tick, whatever the tick answers
   pub ticked_sound : (s t : Standing H) (r : Result Ticked Refusal) → s.is_open ≡ true → t.is_open ≡ true → Ticks s r t → OpenSound t
-  ticked_sound s t (Ok k) is after did = open_of t after (did []).1.sound
+  ticked_sound s t (Ok k) is after did = sound_open t after (did []).1.sound
   ticked_sound s t (Err e) is after did = absurd (true≢false (sym is ∙ did.0))

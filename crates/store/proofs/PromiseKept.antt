@@ -8,7 +8,8 @@ use Rattle.history.proofs.Follows.{follows_promised, shut_promised}
 use Rattle.store.specs.State.{Standing}
 use Rattle.store.specs.State.{OpenSound, Sound, view_of}
 use Rattle.store.specs.Calls.{Run, fresh, then_open, then_admit, then_notice, then_take, then_return, then_store, then_no_store, then_read, then_tick, then_no_tick}
-use Rattle.store.proofs.Invariant.{Inv, inv_open, inv_shut, shut_inv, open_sound, some_pages}
+use Rattle.store.proofs.Booking.{open_sound}
+use Rattle.store.proofs.Invariant.{Inv, inv_open, inv_shut, shut_inv, some_pages}
 use Rattle.store.proofs.OpensKept.{open_call_inv, no_tick_inv}
 use Rattle.store.proofs.SeatsKept.{admit_inv, notice_inv, take_inv, return_inv}
 use Rattle.store.proofs.SavesKept.{stored_inv, no_store_inv}

@@ -65,9 +65,6 @@ module _ {H : Type 0} (n i : ℕ) (k : Ticked) (s : Standing H) (can : CanRun n 
   -- ---- there were pages to spare
 
   module _ (l : Ledger) (made : books_of l ≡ made_one (books_of s.ledger) i) (wide : tokens (books_of s.ledger) + (books_of s.ledger).frame.alpha ≤ all_free s.chip) where
-    after_run : Standing H
-    after_run = record { chip = s.chip; chooser = s.chooser; is_open = s.is_open; ledger = l; tables = s.tables }
-
     books_run : books_of l ≡ ran_once (books_of s.ledger) i
     books_run = made ∙ made_one_is (books_of s.ledger) i fair can.owing
 

@@ -18,7 +18,8 @@ use Rattle.store.specs.State.{Standing}
 use Rattle.store.specs.State.{Sound}
 use Rattle.store.specs.Effects.{and_then, asks_save, SameButBooks, Stored, Saves}
 use Rattle.store.specs.Calls.{entry_save}
-use Rattle.store.proofs.Invariant.{Inv, OpenInv, inv_open, open_inv, shut_call, call_open, sound_open, open_sound, eight_seats}
+use Rattle.store.proofs.Booking.{sound_open, open_sound}
+use Rattle.store.proofs.Invariant.{Inv, OpenInv, inv_open, open_inv, shut_call, call_open, eight_seats}
 use Rattle.store.proofs.OpensKept.{no_question}
 
 -- what a save has to bring

@@ -1,22 +1,20 @@
 -- A save, over plain values. Assumes nothing.
-use Rattle.std.proofs.Common.{◌≡◌, ℕ, ◌+◌, ◌-◌, ◌*◌, ◌<◌, ◌≤◌, Bool, true, false, ltb, leb, List, [], length, Some, None, Ok, Err, Option, Result, sym, refl, ap, ◌∙◌, subst, arith}
+use Rattle.std.proofs.Common.{◌≡◌, ℕ, ◌+◌, ◌-◌, ◌*◌, ◌<◌, ◌≤◌, Bool, true, ltb, leb, List, [], length, Some, None, Ok, Err, Option, Result, sym, refl, ap, ◌∙◌, subst, arith}
 use native.Mathlib.Decide.{ℕ_discrete}
-use Rattle.std.proofs.lemmas.Bool.{ltb-true, leb-true, cond-true, cond-false}
+use Rattle.std.proofs.lemmas.Bool.{ltb-true, leb-true}
 use Rattle.chip.specs.Meaning.{Meaning}
 use Rattle.ledger.specs.declared.ledger.Ledger.{Ledger}
 use Rattle.ledger.specs.declared.refusal.Refusal.{Refusal}
-use Rattle.ledger.specs.declared.refusal.Refusal.TheVariants.{NotOpen, SeatNotInUse, NoPermitOut, NoSuchNumber, DataTooLong}
-use Rattle.ledger.specs.Refusals.{number}
-use Rattle.ledger.specs.Books.{Books, seat_of, ask, answer, unless, used_seat, asks_return, returned, spent, paid}
+use Rattle.ledger.specs.declared.refusal.Refusal.TheVariants.{NotOpen, NoSuchNumber, DataTooLong}
+use Rattle.ledger.specs.Books.{Books, answer, unless, asks_return, spent}
 use Rattle.ledger.specs.Fair.{FairBooks}
 use Rattle.ledger.specs.Of.{books_of}
 use Rattle.ledger.specs.Settled.{Settled}
 use Rattle.ledger.proofs.Answered.{asked}
 use Rattle.ledger.proofs.Facts.{fair_of}
-use Rattle.ledger.proofs.Kept.{return_keeps}
 use Rattle.ledger.proofs.Settles.{spent_settled}
 use Rattle.ledger.proofs.Tokens.{tokens_spent}
-use Rattle.history.specs.History.{History, hands_back}
+use Rattle.history.specs.History.{History}
 use Rattle.history.specs.Pages.{frees}
 use Rattle.history.specs.Work.{Written}
 use Rattle.history.proofs.Laws.{write_costs}
@@ -28,17 +26,9 @@ use Rattle.pages.specs.Recycle.{all_free}
 use Rattle.store.specs.declared.open.Open.{Open}
 use Rattle.store.specs.State.{Standing, standing, paid_for, SoundAt, OpenSound, Sound}
 use Rattle.store.specs.Effects.{asks_page, asks_save, and_then, if_open, Saves}
-use Rattle.store.proofs.Booking.{sound_open, open_sound, sound_on, opened_sound, from_open, with_ledger, beside}
+use Rattle.store.proofs.Booking.{sound_open, opened_sound, from_open, open_sound}
 
 -- ---- what the spare account pays
-
-pub paid_none : (b : Books) → b ≡ paid_for 0 b
-paid_none b = ap (λ x. record { seats = b.seats; pool = b.pool; spare = x; frame = b.frame }) (let e : b.spare ≡ b.spare - 0 = omega arith in e)
-
-pub paid_more : (n : ℕ) (b c d : Books) → c ≡ paid_for n b → d ≡ paid c → d ≡ paid_for (n + 1) b
-paid_more n b c d so more =
-    let e : b.spare - n - 1 ≡ b.spare - (n + 1) = omega arith in
-    more ∙ ap paid so ∙ ap (λ x. record { seats = b.seats; pool = b.pool; spare = x; frame = b.frame }) e
 
 -- ---- what the questions say
 
@@ -162,15 +152,6 @@ module _ {H : Type 0} (s t : Standing H) (i n : ℕ) (d : List ℕ) where
       let o = sound_open s granted.is sound in
       refused (can_store s.chip b s.tables i n (length d) (fair_of s.ledger) o.at granted.out granted.known granted.fits)
 
-  pub never_unpaid : asks_save s.is_open (books_of s.ledger) i n (length d) ≡ None → (paying : Ledger) (failed : ℕ) (e : Refusal) → books_of paying ≡ paid_for failed (books_of s.ledger)
-      → ◌≡◌ {A = Result (Unit {0}) Refusal} (Err e) (answer (asks_return (books_of paying) i) tt) → ⊥
-  never_unpaid none paying failed e so told =
-      let b = books_of s.ledger in
-      let granted = save_granted s.is_open b i n (length d) none in
-      let f : ◌≡◌ {A = Result (Unit {0}) Refusal} (Err e) (Ok tt) = told ∙ ap (λ (x : Books). answer (asks_return x i) tt) so ∙ ap (λ q. answer q tt) granted.out in
-      let z : ◌≡◌ {A = ℕ} 0 1 = cc in
-      omega arith
-
 -- ---- refusals
 
 -- what a refused question tells
@@ -182,44 +163,7 @@ pub none_by : (q : Option Refusal) (x : Unit {0}) → ◌≡◌ {A = Result (Uni
 none_by None x told = refl
 none_by (Some e) x told = (let z : ◌≡◌ {A = ℕ} 0 1 = cc in absurd (omega arith))
 
-keeps_permit : (u v : Bool) (e : Refusal) → ask u SeatNotInUse (ask v NoPermitOut None) ≡ Some e → hands_back (number e) ≡ false
-keeps_permit true true e is = (let z : ◌≡◌ {A = ℕ} 0 1 = cc in absurd (omega arith))
-keeps_permit true false e is = (let x : NoPermitOut ≡ e = cc in ap (λ y. hands_back (number y)) (sym x))
-keeps_permit false v e is = (let x : SeatNotInUse ≡ e = cc in ap (λ y. hands_back (number y)) (sym x))
-
-gives_permit : (u v : Bool) (e : Refusal) → ask u NoSuchNumber (ask v DataTooLong None) ≡ Some e → hands_back (number e) ≡ true
-gives_permit true true e is = (let z : ◌≡◌ {A = ℕ} 0 1 = cc in absurd (omega arith))
-gives_permit true false e is = (let x : DataTooLong ≡ e = cc in ap (λ y. hands_back (number y)) (sym x))
-gives_permit false v e is = (let x : NoSuchNumber ≡ e = cc in ap (λ y. hands_back (number y)) (sym x))
-
 module _ {H : Type 0} (s : Standing H) (i n : ℕ) (d : List ℕ) (is : s.is_open ≡ true) where
-  -- no permit is out, and all stays
-  pub unpermitted : (e : Refusal) → ◌≡◌ {A = Result (Unit {0}) Refusal} (Err e) (answer (asks_return (books_of s.ledger) i) tt) → Saves s i n d (Err e) s
-  unpermitted e told =
-      let b = books_of s.ledger in
-      let why = refused_by (asks_return b i) e told in
-      let keeps = keeps_permit (used_seat b i) (ltb 0 (seat_of b i).out) e why in (
-        ap (λ o. if_open o (and_then (asks_return b i) (asks_page b n (length d)))) is ∙ ap (λ q. and_then q (asks_page b n (length d))) why,
-        record { chip = refl; chooser = refl; is_open = refl; tables = refl },
-        sym (cond-false (hands_back (number e)) (returned b i) b keeps),
-        λ sound. sound,
-      )
-
-  -- number or length is out of range, and the permit goes back
-  pub handed_back : (x : Unit {0}) (e : Refusal) (l : Ledger) → ◌≡◌ {A = Result (Unit {0}) Refusal} (Ok x) (answer (asks_return (books_of s.ledger) i) tt)
-      → ◌≡◌ {A = Result (Unit {0}) Refusal} (Err e) (answer (asks_page (books_of s.ledger) n (length d)) tt)
-      → books_of l ≡ unless (asks_return (books_of s.ledger) i) (returned (books_of s.ledger) i) (books_of s.ledger) → Saves s i n d (Err e) (with_ledger s l)
-  handed_back x e l out told made =
-      let b = books_of s.ledger in
-      let granted = none_by (asks_return b i) x out in
-      let why = refused_by (asks_page b n (length d)) e told in
-      let gives = gives_permit (ltb n b.frame.numbers) (leb (length d) b.frame.page_size) e why in (
-        ap (λ o. if_open o (and_then (asks_return b i) (asks_page b n (length d)))) is ∙ ap (λ q. and_then q (asks_page b n (length d))) granted ∙ why,
-        beside s l,
-        made ∙ ap (λ q. unless q (returned b i) b) granted ∙ sym (cond-true (hands_back (number e)) (returned b i) b gives),
-        sound_on is (beside s l) (ap (λ (y : Books). y.frame) (made ∙ ap (λ q. unless q (returned b i) b) granted)) (ap (λ (y : Books). y.spare) (made ∙ ap (λ q. unless q (returned b i) b) granted)) (return_keeps (fair_of s.ledger) i made),
-      )
-
   -- nothing is refused
   pub asked_all : (x y : Unit {0}) → ◌≡◌ {A = Result (Unit {0}) Refusal} (Ok x) (answer (asks_return (books_of s.ledger) i) tt)
       → ◌≡◌ {A = Result (Unit {0}) Refusal} (Ok y) (answer (asks_page (books_of s.ledger) n (length d)) tt) → asks_save s.is_open (books_of s.ledger) i n (length d) ≡ None
@@ -247,8 +191,3 @@ module _ {H : Type 0} (m : Meaning) (c : H) {was : Option Open} {o : Open} (is :
 
       pub saved_sound : OpenSound (standing m' c (Some (record { ledger = l; tables = u })))
       saved_sound = ((done).1 []).1.sound
-
-    -- a seat that may spend a permit does
-    pub always_paid : (paying : Ledger) (failed : ℕ) (e : Refusal) → books_of paying ≡ paid_for failed (books_of o.ledger)
-        → ◌≡◌ {A = Result (Unit {0}) Refusal} (Err e) (answer (asks_return (books_of paying) i) tt) → ⊥
-    always_paid paying failed e so told = never_unpaid (standing m c (Some o)) (standing m c (Some o)) i n d none paying failed e so told

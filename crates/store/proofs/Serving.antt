@@ -3,7 +3,7 @@ use Rattle.std.proofs.Common.{◌≡◌, ℕ, ◌+◌, ◌-◌, ◌*◌, ◌<◌
 use Rattle.std.proofs.lemmas.Bool.{cases_Bool, cond-true, cond-false}
 use Rattle.chip.specs.Meaning.{Meaning}
 use Rattle.ledger.specs.declared.ledger.Ledger.{Ledger}
-use Rattle.ledger.specs.Books.{Books, seat_of, tokens, used_seat, entered, ended}
+use Rattle.ledger.specs.Books.{Books, seat_of, used_seat, entered, ended}
 use Rattle.ledger.specs.Of.{books_of}
 use Rattle.ledger.specs.Steps.{stepped, owes}
 use Rattle.ledger.specs.Settled.{Settled, SettledBut}
@@ -19,22 +19,8 @@ use Rattle.store.specs.declared.ticked.Ticked.{Ticked}
 use Rattle.store.specs.State.{SoundAt}
 use Rattle.store.specs.Tick.{Walk, unused, enters, ends}
 use Rattle.store.specs.Effects.{desk_of}
+use Rattle.store.proofs.Booking.{sound_at}
 use Rattle.store.specs.Walking.{Few, Between, CanRun, Ran, CanServe, Served, Begun, Midway, Walked}
-
--- books with the same frame and spare account, and no more tokens
-pub sound_with : (m : Meaning) (b c : Books) (t : _) → SoundAt m b t → c.frame ≡ b.frame → c.spare ≡ b.spare → tokens c ≤ tokens b → SoundAt m c t
-sound_with m b c t s frame spare fewer =
-    record {
-      tied = s.tied;
-      shape = s.shape;
-      blocks = ap (λ f. f.blocks) frame ∙ s.blocks;
-      per_block = ap (λ f. f.pages_per_block) frame ∙ s.per_block;
-      page_size = ap (λ f. f.page_size) frame ∙ s.page_size;
-      numbers = omega (arith, ap (λ f. f.numbers) frame, s.numbers);
-      labels = λ l q named. omega (arith, ap (λ f. f.numbers) frame, s.labels l q named);
-      spare = omega (arith, spare, s.spare);
-      room = omega (arith, fewer, s.room);
-    }
 
 pub few_more : (n p : ℕ) (k : Ticked) (m : Meaning) → n ≤ p → Few n k m → Few p k m
 few_more n p k m more few =
@@ -44,10 +30,6 @@ same_size_on : (m n o : Meaning) → SameSize m n → SameSize n o → SameSize 
 same_size_on m n o a b = record { blocks = b.blocks ∙ a.blocks; per_block = b.per_block ∙ a.per_block; page_size = b.page_size ∙ a.page_size }
 
 module _ {H : Type 0} where
-  pub between_none : (n : ℕ) (k : Ticked) (s : Standing H) → SoundAt s.chip (books_of s.ledger) s.tables → Few n k s.chip → Between n k s k s
-  between_none n k s sound few =
-      record { sound = sound; few = few; failed = omega arith; sizes = record { blocks = refl; per_block = refl; page_size = refl }; is_open = refl }
-
   between_on : (n p : ℕ) (k l j : Ticked) (s t u : Standing H) → Between n k s l t → Between p l t j u → Between p k s j u
   between_on n p k l j s t u a b =
       record {
@@ -59,10 +41,6 @@ module _ {H : Type 0} where
       }
 
   -- ---- the runs of one seat
-
-  pub midway_none : (n i due : ℕ) (k : Ticked) (s : Standing H) → Begun n i k s due → Midway n i k s 0 k s
-  midway_none n i due k s g =
-      record { between = between_none (n + 0) k s g.sound (few_more n (n + 0) k s.chip (omega arith) g.few); goes = λ b x h w. (h, w); owing = omega arith; but = g.but }
 
   module _ (n i due done : ℕ) (k : Ticked) (s : Standing H) (g : Begun n i k s due) (l : Ticked) (t : Standing H) (y : Midway n i k s done l t) (more : done < due) where
     pub midway_can : CanRun (n + done) i l t
@@ -119,8 +97,7 @@ module _ {H : Type 0} where
             between =
                 record {
                   sound =
-                      sound_with t.chip (books_of t.ledger) (books_of c) t.tables y.between.sound (ap (λ a. a.frame) close) (ap (λ a. a.spare) close)
-                      (end_keeps fair i close none);
+                      sound_at refl refl (ap (λ a. a.frame) close) (ap (λ a. a.spare) close) (end_keeps fair i close none) y.between.sound;
                   few = few_more (n + due) (n + 1024) l t.chip (omega (arith, g.some)) y.between.few;
                   failed = y.between.failed;
                   sizes = y.between.sizes;
@@ -133,10 +110,6 @@ module _ {H : Type 0} where
           }
 
   -- ---- the seats of a tick
-
-  pub walked_none : (k : Ticked) (s : Standing H) → SoundAt s.chip (books_of s.ledger) s.tables → Settled (books_of s.ledger) → Few 0 k s.chip → Walked k s 0 k s
-  walked_none k s sound settled few =
-      record { between = between_none (1024 * 0) k s sound (few_more 0 (1024 * 0) k s.chip (omega arith) few); goes = λ b x h w. (h, w); settled = settled }
 
   module _ (k : Ticked) (s : Standing H) (done : ℕ) (l : Ticked) (t : Standing H) (y : Walked k s done l t) (more : done < 8) where
     pub walked_can : CanServe (1024 * done) done l t
@@ -171,8 +144,7 @@ module _ {H : Type 0} (n i : ℕ) (k : Ticked) (s : Standing H) (can : CanServe 
   begun_so owed is =
       record {
         sound =
-            sound_with s.chip (books_of s.ledger) (books_of e) s.tables can.sound (ap (λ a. a.frame) entered_so) (ap (λ a. a.spare) entered_so)
-            (omega (arith, step_keeps (fair_of s.ledger) i step));
+            sound_at refl refl (ap (λ a. a.frame) entered_so) (ap (λ a. a.spare) entered_so) (omega (arith, step_keeps (fair_of s.ledger) i step)) can.sound;
         few = can.few;
         little = can.little;
         some = omega (arith, is, few_due);

@@ -13,7 +13,8 @@ use Rattle.store.specs.State.{Standing}
 use Rattle.store.specs.declared.ticked.Ticked.{Ticked}
 use Rattle.store.specs.Effects.{desk_of, Passed}
 use Rattle.store.specs.Calls.{entry_tick}
-use Rattle.store.proofs.Invariant.{Inv, inv_open, open_inv, sound_open, eight_seats, some_pages}
+use Rattle.store.proofs.Booking.{sound_open}
+use Rattle.store.proofs.Invariant.{Inv, inv_open, open_inv, eight_seats, some_pages}
 use Rattle.store.proofs.WalksKept.{walked_at, walk_reached}
 
 pub tick_inv : {H : Type 0} (h h' : History) (s t : Standing H) (k : Ticked) → Passed s k h h' t → Inv h s → Inv (entry_tick (Ok k) ∷ h') t

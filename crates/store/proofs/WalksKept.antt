@@ -52,15 +52,8 @@ unused_seat b i eight q =
     ]
 
 module _ (b₀ : Books) (eight : length b₀.seats ≡ 8) where
-  abbrev due_before : ℕ → ℕ
-  due_before i = sum_first i (λ k. runs_due (seat_of b₀ k))
-
   abbrev so_far : ℕ → List Seat
   so_far i = walked b₀.frame.alpha i b₀.seats
-
-  -- the seats once the seat of this number has made so many runs
-  abbrev running : ℕ → ℕ → List Seat
-  running i n = set (so_far i) i (ran_times b₀.frame.alpha n (one_later (get_or (so_far i) i nobody)))
 
   pub record Between (i runs : ℕ) (seats : List Seat) : Type 0 where
     pub walked_to : seats ≡ walked b₀.frame.alpha i b₀.seats

@@ -9,7 +9,7 @@
 -- Sound         a store is shut, or open with all of that and with settled seats
 -- sound_prop    that there is one proof of this at most
 -- view_of       what can be seen of a store: its map, its chip's pages, and account and charge of each seat
-use Rattle.std.specs.Prelude.{◌≡◌, ℕ, ◌-◌, ◌<◌, ◌≤◌, Bool, List, length, replicate, Some, None, Option, MatchBool, refl}
+use Rattle.std.specs.Prelude.{◌≡◌, ℕ, ◌-◌, ◌<◌, ◌≤◌, Bool, List, length, replicate, Some, None, Option, MatchBool}
 use Rattle.std.specs.Option.{is_some}
 use Rattle.std.specs.Coded.{Unit-prop}
 use Rattle.std.proofs.Common.{rules, arith, sym, ◌∙◌}

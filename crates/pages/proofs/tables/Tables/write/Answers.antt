@@ -1,8 +1,7 @@
-use Rattle.std.proofs.Common.{true, false, length, Ok, sym, ap, ◌∙◌, subst, arith}
-use Rattle.chip.specs.Meaning.{Meaning}
-use Rattle.chip.specs.Calls.{asks_program, Programmed}
+use Rattle.std.proofs.Common.{true, false, length, Ok, subst, arith}
+use Rattle.chip.specs.Calls.{Programmed}
 use Rattle.pages.proofs.Truth.{countable, replaceable}
-use Rattle.pages.proofs.Writing.{few_failures, trying_none, trying_stuck, trying_refused, trying_more, trying_good, failed_allowance}
+use Rattle.pages.proofs.Writing.{trying_none, trying_stuck, trying_more, trying_good, failed_allowance}
 use Rattle.pages.proofs.tables.Tables.write.Goals as goal
 
 pub loop-page-init : goal.loop-page-init
@@ -13,18 +12,6 @@ returns-in_default g c = λ can.
     let n = g.C.Chip.means c.loop-page.chip in
     let y = c.loop-page.invariant.1 can in
     absurd (trying_stuck n c.loop-page.self c.args.skip c.args.label (length c.args.bytes.now) y.can (c.in_default.ensures.found y.can.tied.sized))
-
-pub returns-in_default-program : goal.returns-in_default-program
-returns-in_default-program g c = λ can.
-    let n = g.C.Chip.means c.loop-page.chip in
-    let y = c.loop-page.invariant.1 can in
-    let place = c.in-Some.ensures in
-    let asked = c.in_default-program.ensures.effect.0 in
-    absurd (trying_refused n c.loop-page.self c.args.skip c.args.label (length c.args.bytes.now) c.in-Some.page _ y.can (place.found y.can.tied.sized)
-    (ap (λ (x : Meaning). asks_program x c.in-Some.page (length c.args.bytes.now)) (sym place.same) ∙ asked))
-
-pub overflow_add-tries : goal.overflow_add-tries
-overflow_add-tries g c = omega (arith, c.loop-page.invariant.0, few_failures (g.C.Chip.means c.args.chip.now) (g.C.Chip.shaped c.args.chip.now))
 
 pub returns-then-good : goal.returns-then-good
 returns-then-good g c = λ can.

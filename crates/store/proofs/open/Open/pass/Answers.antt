@@ -2,13 +2,8 @@ use Rattle.std.proofs.Common.{◌*◌, Some, refl, arith}
 use Rattle.store.specs.declared.ticked.Ticked.{Ticked}
 use Rattle.store.specs.State.{standing}
 use Rattle.store.proofs.Serving.{walked_can, walked_more}
-use Rattle.store.proofs.Passing.{walked_begun, passed_all}
+use Rattle.store.proofs.Passing.{passed_all}
 use Rattle.store.proofs.open.Open.pass.Goals as goal
-
-pub loop-seat-init : goal.loop-seat-init
-loop-seat-init g c = λ sound.
-    let s = standing (g.C.Chip.means c.args.chip.now) c.args.chooser.now (Some c.args.self.now) in
-    rw (c.default-count.ensures.0, c.default-count.ensures.1.0, c.default-count.ensures.1.1.0, c.default-count.ensures.1.1.1) (walked_begun s sound (g.C.Chip.shaped c.args.chip.now))
 
 pub returns-in_err-count : goal.returns-in_err-count
 returns-in_err-count g c = λ sound.

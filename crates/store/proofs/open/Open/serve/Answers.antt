@@ -3,7 +3,7 @@ use Rattle.ledger.specs.Books.{used_seat}
 use Rattle.ledger.specs.Of.{books_of}
 use Rattle.store.specs.State.{standing}
 use Rattle.store.specs.Walking.{Midway}
-use Rattle.store.proofs.Serving.{midway_none, midway_can, midway_more, served_unused, served_used, entered_so, begun_so, stepped_unused}
+use Rattle.store.proofs.Serving.{midway_can, midway_more, served_unused, served_used, entered_so, begun_so, stepped_unused}
 use Rattle.store.proofs.open.Open.serve.Goals as goal
 
 pub returns-then-not-enter : goal.returns-then-not-enter
@@ -11,9 +11,6 @@ returns-then-not-enter g c = λ n can.
     let s = standing (g.C.Chip.means c.args.chip.now) c.args.chooser.now (Some c.args.self.now) in
     let none : used_seat (books_of s.ledger) c.args.seat ≡ false = sym c.enter.ensures.answer ∙ c.if-not-enter.true in
     served_unused n c.args.seat c.args.so_far s can c.enter.new.self none (c.enter.ensures.books ∙ stepped_unused (books_of s.ledger) c.args.seat none)
-
-pub loop-init : goal.loop-init
-loop-init g c = λ n began. midway_none n c.args.seat c.runs_due-due.result c.args.so_far _ began
 
 pub returns-in_err-count : goal.returns-in_err-count
 returns-in_err-count g c = λ n can.
