@@ -10,6 +10,7 @@
 --             hand back and save ask asks_return
 -- admitted, noticed, taken, returned, spent    the books after an accepted admit, notice, take, hand back, stored save
 -- paid        the spare account pays for a failed try
+-- paid_for    it pays for so many
 -- entered, ran_once, ended    the parts of a tick: its clock, one run, and the end of the meta-period
 use Rattle.std.specs.Prelude.{ℕ, ◌+◌, ◌-◌, ◌*◌, Bool, true, false, cond, not, ◌&&◌, List, [], ◌∷◌, Some, None, Ok, Err, Option, Result, ◌==◌, nat_le, nat_lt, slice_index_or, slice_set}
 use Rattle.plan.specs.declared.numbers.Plan.{Plan}
@@ -141,6 +142,9 @@ spent b i = with_seat b i (saved (seat_of b i))
 
 abbrev pub paid : Books → Books
 paid b = record { seats = b.seats; pool = b.pool; spare = b.spare - 1; frame = b.frame }
+
+abbrev pub paid_for : ℕ → Books → Books
+paid_for n b = record { seats = b.seats; pool = b.pool; spare = b.spare - n; frame = b.frame }
 
 -- ---- the parts of a tick
 

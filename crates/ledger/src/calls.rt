@@ -1,6 +1,6 @@
 // The calls on one seat: what they answer, what they make of the books, and what they keep.
 ghost use Rattle.std.specs.Prelude.{◌≡◌, ◌<◌, MatchResult};
-ghost use Rattle.ledger.specs.Books.{answer, unless, asks_notice, asks_take, asks_return, noticed, taken, returned, spent, paid};
+ghost use Rattle.ledger.specs.Books.{answer, unless, asks_notice, asks_take, asks_return, noticed, taken, returned, spent, paid, paid_for};
 ghost use Rattle.ledger.specs.Keeps.{Keeps, Spends};
 ghost use Rattle.ledger.specs.Of.{books_of};
 
@@ -77,5 +77,12 @@ impl Ledger {
         ensures law { 0 < (books_of self.old).spare → Spends (books_of self.old) (books_of self.new) }
     {
         self.spare = self.spare.saturating_sub(1);
+    }
+
+    // So many page writes failed: the spare account pays for them, and no seat.
+    pub fn pay_for(&mut self, failed: u32)
+        ensures { books_of self.new ≡ paid_for failed (books_of self.old) }
+    {
+        self.spare = self.spare.saturating_sub(failed);
     }
 }

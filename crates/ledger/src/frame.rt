@@ -6,7 +6,8 @@ ghost use Rattle.ledger.specs.Fair.{stands};
 use plan::yield_rule;
 
 // What the opening of a store fixes: the size of its chip and the allowance then, how many page numbers
-// are offered, how many pages a run wins back, and the pool of tokens.
+// are offered, how many pages a run wins back, and the pool of tokens. The books reckon with 32 bits, so the chip's
+// sizes are widened here once.
 #[derive(Clone, Copy)]
 pub struct Frame {
     pub blocks: u32,
@@ -23,8 +24,7 @@ impl Frame {
     pub(crate) fn stands(self) -> bool
         ensures { result ≡ stands self }
     {
-        self.alpha >= 1
-            && self.alpha <= self.pages_per_block
+        (1..=self.pages_per_block).contains(&self.alpha)
             && self.pages_per_block <= 32
             && self.blocks <= 64
             && self.yields(u64::from(self.pool) + u64::from(self.allowance))

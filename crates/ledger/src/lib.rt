@@ -15,6 +15,6 @@ mod seat;
 mod totals;
 
 pub use frame::Frame;
-pub use ledger::Ledger;
+pub use ledger::{Ledger, SEATS};
 pub use refusal::Refusal;
 pub use seat::{Seat, Status};

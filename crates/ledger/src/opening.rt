@@ -14,11 +14,7 @@ impl Ledger {
     pub fn opened(frame: Frame) -> Option<Ledger>
         ensures { option_map books_of result ≡ (if stands frame then Some (opened frame) else None) }
     {
-        if frame.stands() {
-            Some(Ledger::fresh(frame))
-        } else {
-            None
-        }
+        frame.stands().then(|| Ledger::fresh(frame))
     }
 
     // Books with no tokens at all.

@@ -11,7 +11,8 @@ pub enum Status {
 
 // The record of a seat: its plan, the tokens of its account and of its collector, and since the start of
 // its meta-period what was charged, the ticks that have passed and the runs that were made. `out` counts
-// the permits that were granted and are neither spent nor handed back.
+// the permits that were granted and are neither spent nor handed back. An empty seat has a record too, of zeros, and is
+// no `None`: what a seat's number shows is a record whatever stands there, and the rules count it with the others.
 #[derive(Clone, Copy, Default)]
 pub struct Seat {
     pub status: Status,

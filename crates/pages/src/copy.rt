@@ -12,7 +12,7 @@ impl Tables {
     fn names(&self, label: u16, page: u16) -> bool
         ensures { result ≡ (nat_lt label 1920 && names (maps_of self.now label) page) }
     {
-        self.map.get(label as usize) == Some(&Some(page))
+        self.page_of(label) == Some(page)
     }
 
     // Copies a page out of its block if it is live, and says how many programs that took: none if it is not.

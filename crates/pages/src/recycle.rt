@@ -29,12 +29,12 @@ impl Tables {
         if block >= self.geometry.blocks {
             return Err(Refusal::TablesDisagree);
         }
-        let pages_per_block = self.geometry.pages_per_block;
-        let first = block * pages_per_block;
+        // As large as any page: there is no heap.
         let mut buffer = [0u8; 512];
         let mut done = Emptied::default();
-        for i in 0..pages_per_block {
-            let made = self.copy_one(chip, &mut buffer, block, first + i)?;
+        let first = block * self.geometry.pages_per_block;
+        for page in first..first + self.geometry.pages_per_block {
+            let made = self.copy_one(chip, &mut buffer, block, page)?;
             done = done.with(made);
         }
         Ok(done)

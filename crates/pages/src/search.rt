@@ -42,7 +42,7 @@ impl Tables {
         ensures value { result ≡ (not (over self.now.geometry.pages_per_block skip page) && is_free (page_at (C.Chip.means chip.old) page)) }
         ensures same { C.Chip.means chip.new ≡ C.Chip.means chip.old }
     {
-        skip != Some(self.geometry.block_of(page)) && matches!(chip.kind(page), Ok(Kind::Free))
+        skip != Some(self.geometry.block_of(page)) && chip.kind(page) == Ok(Kind::Free)
     }
 
     // The first free page going up and round from where the search starts; the pages of one block may be
@@ -51,6 +51,7 @@ impl Tables {
         ensures found { Sized (C.Chip.means chip.old).pages self.now → Found (over self.now.geometry.pages_per_block skip) (C.Chip.means chip.old).pages self.now.start result }
         ensures same { C.Chip.means chip.new ≡ C.Chip.means chip.old }
     {
+        // By `break` out of a labelled block: the search yields its page so, and the range does the counting.
         let mut page = self.start;
         'search: {
             for _ in 0..self.geometry.pages() {

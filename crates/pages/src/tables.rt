@@ -1,3 +1,6 @@
+ghost use Rattle.std.specs.Prelude.{◌≡◌, ◌*◌, None, replicate};
+ghost use Rattle.pages.specs.Tied.{maps_of};
+
 use crate::geometry::Geometry;
 
 // The most page numbers that a store offers, and the most blocks that a chip has.
@@ -16,4 +19,30 @@ pub struct Tables {
     pub free: u16,
     pub start: u16,
     pub geometry: Geometry,
+}
+
+impl Tables {
+    // The tables of a chip whose pages are all free.
+    pub fn fresh(geometry: Geometry) -> Tables
+        ensures map { result.map ≡ replicate 1920 None }
+        ensures dead { result.dead ≡ replicate 64 0 }
+        ensures free { result.free ≡ geometry.blocks * geometry.pages_per_block }
+        ensures start { result.start ≡ 0 }
+        ensures geometry { result.geometry ≡ geometry }
+    {
+        Tables {
+            map: [None; MOST_NUMBERS],
+            dead: [0; MOST_BLOCKS],
+            free: geometry.pages(),
+            start: 0,
+            geometry,
+        }
+    }
+
+    // The chip page of a page number, if something is stored under it; nothing stands under a number past the last.
+    pub fn page_of(&self, number: u16) -> Option<u16>
+        ensures { result ≡ maps_of self.now number }
+    {
+        *self.map.get(number as usize)?
+    }
 }

@@ -31,7 +31,7 @@ impl Tables {
     fn supersede(&mut self, label: u16)
         ensures { Replaceable self.old label → self.new ≡ with_dead self.old (superseded self.old (maps_of self.old label)) }
     {
-        if let Some(&Some(old)) = self.map.get(label as usize) {
+        if let Some(old) = self.page_of(label) {
             self.bury(old);
         }
     }
@@ -42,10 +42,9 @@ impl Tables {
     {
         self.supersede(label);
         let index = label as usize;
-        if index >= self.map.len() {
-            return;
+        if index < self.map.len() {
+            self.map[index] = Some(page);
         }
-        self.map[index] = Some(page);
         self.free = self.free.saturating_sub(1);
         self.start = self.geometry.after(page);
     }
@@ -60,16 +59,14 @@ impl Tables {
     ) -> Result<u32, Refusal>
         ensures { CanWrite (C.Chip.means chip.old) self.old skip label (length bytes.now) → Writes (C.Chip.means chip.old) self.old skip label bytes.now result (C.Chip.means chip.new) self.new }
     {
-        // Not over a range: how often a program may fail, the chip alone knows.
+        // Not over a range: how often a program may fail, the chip alone knows. So the tries are counted here.
         let mut tries = 0;
         loop {
-            let Some(page) = self.place(chip, skip) else {
-                return Err(Refusal::TablesDisagree);
-            };
+            let page = self.place(chip, skip).ok_or(Refusal::TablesDisagree)?;
             tries += 1;
-            let Ok(good) = chip.program(page, label, bytes) else {
-                return Err(Refusal::TablesDisagree);
-            };
+            let good = chip
+                .program(page, label, bytes)
+                .map_err(|_| Refusal::TablesDisagree)?;
             if good {
                 self.settle(label, page);
                 return Ok(tries);

@@ -6,7 +6,7 @@ ghost use Rattle.ledger.specs.Books.{answer};
 ghost use Rattle.history.specs.History.{History};
 ghost use Rattle.store.specs.State.{frame_for};
 ghost use Rattle.store.specs.Seen.{seen};
-ghost use Rattle.store.specs.Effects.{asks_frame, blank, FreshTables, Opens};
+ghost use Rattle.store.specs.Effects.{asks_frame, blank, Opens};
 ghost use Rattle.store.specs.Calls.{Run, Entered, entry_open};
 
 use crate::open::Open;
@@ -14,7 +14,7 @@ use crate::store::Store;
 use chip::{Chip, Shape};
 use chooser::Chooser;
 use ledger::{Frame, Ledger, Refusal};
-use pages::{Geometry, MOST_BLOCKS, MOST_NUMBERS, Tables};
+use pages::{Geometry, Tables};
 
 // What an opening fixes on a chip of this shape. Numbers, yield and pool come one by one, as the rules list them for
 // an opening: `Frame` is the struct that they go into.
@@ -39,13 +39,13 @@ fn may_open(is_open: bool, frame: Frame) -> Result<(), Refusal>
     if is_open {
         return Err(Refusal::AlreadyOpen);
     }
-    if frame.blocks < 2 || frame.blocks > 64 {
+    if !(2..=64).contains(&frame.blocks) {
         return Err(Refusal::BlocksOutOfRange);
     }
-    if frame.numbers < 1 || frame.numbers > 1920 {
+    if !(1..=1920).contains(&frame.numbers) {
         return Err(Refusal::NumbersOutOfRange);
     }
-    if frame.alpha < 1 || frame.alpha > frame.pages_per_block {
+    if !(1..=frame.pages_per_block).contains(&frame.alpha) {
         return Err(Refusal::AlphaOutOfRange);
     }
     if !frame.yields(u64::from(frame.pool) + u64::from(frame.allowance)) {
@@ -60,19 +60,6 @@ fn erase_all<C: Chip>(chip: &mut C, blocks: u16)
 {
     for block in 0..blocks {
         let _ = chip.erase(block);
-    }
-}
-
-// The tables of a chip whose pages are all free.
-fn fresh_tables(geometry: Geometry) -> Tables
-    ensures { (m : Meaning) → geometry.blocks ≡ m.blocks → geometry.pages_per_block ≡ m.per_block → FreshTables m result }
-{
-    Tables {
-        map: [None; MOST_NUMBERS],
-        dead: [0; MOST_BLOCKS],
-        free: geometry.pages(),
-        start: 0,
-        geometry,
     }
 }
 
@@ -100,9 +87,7 @@ impl<C: Chip, H: Chooser> Store<C, H> {
         let shape = self.chip.shape();
         let frame = framed(shape, numbers, alpha, pool);
         may_open(self.opened.is_some(), frame)?;
-        let Some(ledger) = Ledger::opened(frame) else {
-            return Err(Refusal::TablesDisagree);
-        };
+        let ledger = Ledger::opened(frame).ok_or(Refusal::TablesDisagree)?;
         let geometry = Geometry {
             blocks: shape.blocks,
             pages_per_block: shape.pages_per_block,
@@ -110,7 +95,7 @@ impl<C: Chip, H: Chooser> Store<C, H> {
         erase_all(&mut self.chip, shape.blocks);
         self.opened = Some(Open {
             ledger,
-            tables: fresh_tables(geometry),
+            tables: Tables::fresh(geometry),
         });
         Ok(())
     }

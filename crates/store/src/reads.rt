@@ -1,7 +1,6 @@
 // Reading a page back.
-ghost use Rattle.std.specs.Prelude.{◌≡◌, ◌<◌, length};
+ghost use Rattle.std.specs.Prelude.{length};
 ghost use Rattle.history.specs.History.{History};
-ghost use Rattle.pages.specs.Tied.{maps_of};
 ghost use Rattle.store.specs.Seen.{seen};
 ghost use Rattle.store.specs.Effects.{Reads};
 ghost use Rattle.store.specs.Calls.{Run, Entered, entry_read, bytes_read};
@@ -10,14 +9,6 @@ use crate::store::Store;
 use chip::Chip;
 use chooser::Chooser;
 use ledger::Refusal;
-use pages::Tables;
-
-// The chip page of a page number, if something is stored under it.
-fn page_of(tables: &Tables, number: u16) -> Option<u16>
-    ensures { number < 1920 → result ≡ maps_of tables.now number }
-{
-    *tables.map.get(number as usize)?
-}
 
 impl<C: Chip, H: Chooser> Store<C, H> {
     // Reads what was saved last under a page number into the front of the buffer, and answers its length.
@@ -29,12 +20,14 @@ impl<C: Chip, H: Chooser> Store<C, H> {
         if u32::from(number) >= open.ledger.frame().numbers {
             return Err(Refusal::NoSuchNumber);
         }
-        let Some(page) = page_of(&open.tables, number) else {
-            return Err(Refusal::NothingStored);
-        };
-        let Ok((_, length)) = self.chip.fetch(page, buffer) else {
-            return Err(Refusal::BufferTooShort);
-        };
+        let page = open
+            .tables
+            .page_of(number)
+            .ok_or(Refusal::NothingStored)?;
+        let (_, length) = self
+            .chip
+            .fetch(page, buffer)
+            .map_err(|_| Refusal::BufferTooShort)?;
         Ok(length)
     }
 }

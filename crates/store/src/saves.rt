@@ -3,7 +3,6 @@ ghost use Rattle.std.specs.Prelude.{◌≡◌, length};
 ghost use Rattle.ledger.specs.Books.{answer};
 ghost use Rattle.ledger.specs.Of.{books_of};
 ghost use Rattle.history.specs.History.{History};
-ghost use Rattle.store.specs.State.{paid_for};
 ghost use Rattle.store.specs.Seen.{seen};
 ghost use Rattle.store.specs.Effects.{asks_page, Saves};
 ghost use Rattle.store.specs.Calls.{Run, Entered, entry_save};
@@ -12,16 +11,7 @@ use crate::open::Open;
 use crate::store::{Permit, Store};
 use chip::Chip;
 use chooser::Chooser;
-use ledger::{Ledger, Refusal};
-
-// The spare account pays for failed tries.
-pub(crate) fn pay_for(ledger: &mut Ledger, failed: u32)
-    ensures { books_of ledger.new ≡ paid_for failed (books_of ledger.old) }
-{
-    for _ in 0..failed {
-        ledger.pay();
-    }
-}
+use ledger::Refusal;
 
 impl Open {
     // Are page number and length in range?
@@ -49,13 +39,13 @@ impl<C: Chip, H: Chooser> Store<C, H> {
         let Permit { seat } = permit;
         let open = self.opened.as_mut().ok_or(Refusal::NotOpen)?;
         open.ledger.may_spend(seat)?;
-        // Not by `?`: a page that is refused hands the permit back first.
+        // Not by `?`: a page that is refused hands the permit back first, and a closure would borrow the ledger again.
         if let Err(refusal) = open.takes_page(number, bytes.len()) {
             let _ = open.ledger.hand_back(seat);
             return Err(refusal);
         }
         let tries = open.tables.write(&mut self.chip, number, bytes, None)?;
-        pay_for(&mut open.ledger, tries.saturating_sub(1));
+        open.ledger.pay_for(tries.saturating_sub(1));
         open.ledger.spend(seat)?;
         Ok(tries)
     }

@@ -7,12 +7,11 @@ ghost use Rattle.store.specs.Calls.{Run, Entered, entry_tick};
 ghost use Rattle.store.specs.Walking.{one_run, one_recycle, CanRun, Runs, CanServe, Serves};
 
 use crate::open::Open;
-use crate::saves::pay_for;
 use crate::store::Store;
 use crate::ticked::Ticked;
 use chip::Chip;
 use chooser::Chooser;
-use ledger::Refusal;
+use ledger::{Refusal, SEATS};
 use pages::Emptied;
 
 impl Ticked {
@@ -51,7 +50,7 @@ impl Open {
         seat: u8,
         so_far: Ticked,
     ) -> Result<Ticked, Refusal>
-        ensures { (n : ℕ) → CanRun n seat so_far (standing (C.Chip.means chip.old) chooser.old (Some self.old)) → Runs n seat so_far (standing (C.Chip.means chip.old) chooser.old (Some self.old)) result (standing (C.Chip.means chip.new) chooser.new (Some self.new)) }
+        ensures { let before = standing (C.Chip.means chip.old) chooser.old (Some self.old) in let after = standing (C.Chip.means chip.new) chooser.new (Some self.new) in (n : ℕ) → CanRun n seat so_far before → Runs n seat so_far before result after }
     {
         let wanted = u64::from(self.ledger.tokens()) + u64::from(self.ledger.alpha());
         if u64::from(self.tables.free) >= wanted {
@@ -59,7 +58,7 @@ impl Open {
             return Ok(so_far.with_run());
         }
         let done = self.tables.recycle(chip, chooser)?;
-        pay_for(&mut self.ledger, done.tries.saturating_sub(done.copies));
+        self.ledger.pay_for(done.tries.saturating_sub(done.copies));
         self.ledger.ran(seat);
         Ok(so_far.with_recycle(done))
     }
@@ -72,7 +71,7 @@ impl Open {
         seat: u8,
         so_far: Ticked,
     ) -> Result<Ticked, Refusal>
-        ensures { (n : ℕ) → CanServe n seat so_far (standing (C.Chip.means chip.old) chooser.old (Some self.old)) → Serves n seat so_far (standing (C.Chip.means chip.old) chooser.old (Some self.old)) result (standing (C.Chip.means chip.new) chooser.new (Some self.new)) }
+        ensures { let before = standing (C.Chip.means chip.old) chooser.old (Some self.old) in let after = standing (C.Chip.means chip.new) chooser.new (Some self.new) in (n : ℕ) → CanServe n seat so_far before → Serves n seat so_far before result after }
     {
         if !self.ledger.enter(seat) {
             return Ok(so_far);
@@ -92,10 +91,10 @@ impl Open {
         chip: &mut C,
         chooser: &mut H,
     ) -> Result<Ticked, Refusal>
-        ensures { OpenSound (standing (C.Chip.means chip.old) chooser.old (Some self.old)) → Ticks (standing (C.Chip.means chip.old) chooser.old (Some self.old)) result (standing (C.Chip.means chip.new) chooser.new (Some self.new)) }
+        ensures { let before = standing (C.Chip.means chip.old) chooser.old (Some self.old) in let after = standing (C.Chip.means chip.new) chooser.new (Some self.new) in OpenSound before → Ticks before result after }
     {
         let mut count = Ticked::default();
-        for seat in 0..8u8 {
+        for seat in 0..SEATS as u8 {
             count = self.serve(chip, chooser, seat, count)?;
         }
         Ok(count)

@@ -1,3 +1,4 @@
+// Counted without an end, so that no part of a tick has a premise on the counts: that they stay small is proved.
 // What a tick did: the runs it made, the blocks it recycled, the live pages it copied out of them, and the
 // programs it called for the copies.
 #[derive(Clone, Copy, PartialEq, Eq, Debug, Default)]
