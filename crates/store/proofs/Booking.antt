@@ -29,14 +29,14 @@ sound_at {m} {n} {b} {c} {t} {u} chip tables frame spare fewer at =
       room = omega (arith, fewer, at.room);
     }))
 
-module _ {H : Type 0} (s : Standing H) where
+module _ {C H : Type 0} {means : C → Meaning} (s : Standing means H) where
   pub sound_open : s.is_open ≡ true → Sound s → OpenSound s
   sound_open is sound = subst (λ x. MatchBool x (OpenSound s) (Unit {0})) is sound
 
   pub open_sound : s.is_open ≡ true → OpenSound s → Sound s
   open_sound is sound = subst (λ x. MatchBool x (OpenSound s) (Unit {0})) (sym is) sound
 
-module _ {H : Type 0} {s t : Standing H} where
+module _ {C H : Type 0} {means : C → Meaning} {s t : Standing means H} where
   pub sound_on : s.is_open ≡ true → SameButBooks s t → (books_of t.ledger).frame ≡ (books_of s.ledger).frame → (books_of t.ledger).spare ≡ (books_of s.ledger).spare
       → Keeps (books_of s.ledger) (books_of t.ledger) → Sound s → Sound t
   sound_on is rest frame spare keeps sound =
@@ -61,18 +61,18 @@ module _ {H : Type 0} {s t : Standing H} where
       by_spare (Some r) e = ap (λ (x : Books). x.spare) e
 
 -- what a store that is open keeps, where a call on the ledger alone kept the ledger's promises
-module _ {H : Type 0} {m : Meaning} {c : H} {was : Option Open} {o : Open} (is : was ≡ Some o) (sound : Sound (standing m c was)) where
-  pub opened_sound : OpenSound (standing m c (Some o))
-  opened_sound = subst (λ (x : Option Open). Sound (standing m c x)) is sound
+module _ {C H : Type 0} (means : C → Meaning) (k : C) (c : H) {was : Option Open} {o : Open} (is : was ≡ Some o) (sound : Sound (standing means k c was)) where
+  pub opened_sound : OpenSound (standing means k c (Some o))
+  opened_sound = subst (λ (x : Option Open). Sound (standing means k c x)) is sound
 
   -- what is true of the open store is true of the store
-  pub from_open : (P : Standing H → Type 0) → P (standing m c (Some o)) → P (standing m c was)
-  from_open P p = subst (λ (x : Option Open). P (standing m c x)) (sym is) p
+  pub from_open : (P : Standing means H → Type 0) → P (standing means k c (Some o)) → P (standing means k c was)
+  from_open P p = subst (λ (x : Option Open). P (standing means k c x)) (sym is) p
 
   pub ledger_sound : (l : Ledger) (q : Option Refusal) (after : Books) → books_of l ≡ unless q after (books_of o.ledger)
-      → after.frame ≡ o.ledger.frame → after.spare ≡ o.ledger.spare → Keeps (books_of o.ledger) (books_of l) → OpenSound (standing m c (Some (record { ledger = l; tables = o.tables })))
+      → after.frame ≡ o.ledger.frame → after.spare ≡ o.ledger.spare → Keeps (books_of o.ledger) (books_of l) → OpenSound (standing means k c (Some (record { ledger = l; tables = o.tables })))
   ledger_sound l q after made frame spare keeps =
-      let s = standing m c (Some o) in
-      let t = standing m c (Some (record { ledger = l; tables = o.tables })) in
+      let s = standing means k c (Some o) in
+      let t = standing means k c (Some (record { ledger = l; tables = o.tables })) in
       let rest : SameButBooks s t = record { chip = refl; chooser = refl; is_open = refl; tables = refl } in
       (booked q after refl rest made frame spare keeps).sound opened_sound

@@ -1,6 +1,6 @@
 -- What each call adds to a history that keeps the promise: its entry, after what chip and chooser answered during it.
 use Rattle.std.proofs.Common.{ℕ, zero, suc, Bool, false, List, ◌∷◌, length, Ok, Err, Option, Result, sym, refl, subst}
-use Rattle.chip.specs.Meaning.{Page}
+use Rattle.chip.specs.Meaning.{Page, Meaning}
 use Rattle.plan.specs.declared.numbers.Plan.{Plan}
 use Rattle.ledger.specs.declared.frame.Frame.{Frame}
 use Rattle.ledger.specs.declared.refusal.Refusal.{Refusal}
@@ -58,7 +58,7 @@ walk_grows (ends w q) = walk_grows w
 
 -- ---- the calls
 
-module _ {H : Type 0} (s t : Standing H) where
+module _ {C H : Type 0} {means : C → Meaning} (s t : Standing means H) where
   entered : {h past : History} (e : Entry) → Grows h past → Run (e ∷ past) t → Entered e h t
   entered {past = past} e grows run = record { past = past; grows = grows; run = run; promise = run_promised run }
 

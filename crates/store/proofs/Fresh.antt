@@ -21,6 +21,7 @@ use Rattle.ledger.proofs.Settles.{opened_settled}
 use Rattle.history.specs.Pages.{is_dead, frees}
 use Rattle.history.proofs.Tally.{tally_none, tally_all}
 use Rattle.history.proofs.Chip.{all_free as all_are_free}
+use Rattle.pages.specs.declared.geometry.Geometry.{Geometry}
 use Rattle.pages.specs.declared.tables.Tables.{Tables}
 use Rattle.pages.specs.Tied.{maps_of, page_in, Tied}
 use Rattle.pages.specs.Recycle.{all_free}
@@ -182,10 +183,25 @@ module _ (m : Meaning) (t : Tables) (fresh : FreshTables m t) where
           room = omega (arith, enough, blank_free);
         }
 
+-- tables that were made for a chip of this shape
+pub fresh_tables : (m : Meaning) (x : Shape) (g : Geometry) (t : Tables) → x ≡ shape_of m → g.blocks ≡ x.blocks → g.pages_per_block ≡ x.pages_per_block
+    → t.map ≡ replicate 1920 None → t.dead ≡ replicate 64 0 → t.free ≡ g.blocks * g.pages_per_block → t.start ≡ 0 → t.geometry ≡ g → FreshTables m t
+fresh_tables m x g t is blocks per_block map dead unused start geometry =
+    let b : g.blocks ≡ m.blocks = blocks ∙ ap (λ (s : Shape). s.blocks) is in
+    let p : g.pages_per_block ≡ m.per_block = per_block ∙ ap (λ (s : Shape). s.pages_per_block) is in
+    record {
+      map = map;
+      dead = dead;
+      free_pages = unused ∙ ap (λ y. y * g.pages_per_block) b ∙ ap (λ y. m.blocks * y) p;
+      start = start;
+      blocks = ap (λ (y : Geometry). y.blocks) geometry ∙ b;
+      per_block = ap (λ (y : Geometry). y.pages_per_block) geometry ∙ p;
+    }
+
 -- ---- the whole
 
-module _ {H : Type 0} (s : Standing H) (numbers alpha pool : ℕ) (none : asks_open s.is_open s.chip numbers alpha pool ≡ None) where
-  pub opens_on : (t : Standing H) → t.chip ≡ blank s.chip → t.chooser ≡ s.chooser → t.is_open ≡ true
+module _ {C H : Type 0} {means : C → Meaning} (s : Standing means H) (numbers alpha pool : ℕ) (none : asks_open s.is_open s.chip numbers alpha pool ≡ None) where
+  pub opens_on : (t : Standing means H) → t.chip ≡ blank s.chip → t.chooser ≡ s.chooser → t.is_open ≡ true
       → books_of t.ledger ≡ opened_books (frame_for s.chip numbers alpha pool) → FreshTables s.chip t.tables → Opens s numbers alpha pool (Ok tt) t
   opens_on t chip chooser is books fresh =
       let m = s.chip in
@@ -199,11 +215,11 @@ module _ {H : Type 0} (s : Standing H) (numbers alpha pool : ℕ) (none : asks_o
         open_sound t is (record { at = at; settled = subst Settled (sym books) (opened_settled f) }),
       )
 
-module _ {H : Type 0} (s : Standing H) (numbers alpha pool : ℕ) (f : Frame) (is : f ≡ frame_for s.chip numbers alpha pool) where
+module _ {C H : Type 0} {means : C → Meaning} (s : Standing means H) (numbers alpha pool : ℕ) (f : Frame) (is : f ≡ frame_for s.chip numbers alpha pool) where
   pub asked_open : (x : Unit {0}) → ◌≡◌ {A = Result (Unit {0}) Refusal} (Ok x) (answer (asks_frame s.is_open f) tt) → asks_open s.is_open s.chip numbers alpha pool ≡ None
   asked_open x told = ap (asks_frame s.is_open) (sym is) ∙ none_by (asks_frame s.is_open f) x told
 
-  pub not_opened : (t : Standing H) (e : Refusal) → ◌≡◌ {A = Result (Unit {0}) Refusal} (Err e) (answer (asks_frame s.is_open f) tt) → t.chip ≡ s.chip → t.chooser ≡ s.chooser
+  pub not_opened : (t : Standing means H) (e : Refusal) → ◌≡◌ {A = Result (Unit {0}) Refusal} (Err e) (answer (asks_frame s.is_open f) tt) → t.chip ≡ s.chip → t.chooser ≡ s.chooser
       → t.is_open ≡ s.is_open → t.ledger ≡ s.ledger → t.tables ≡ s.tables → Opens s numbers alpha pool (Err e) t
   not_opened t e told chip chooser is_open ledger tables =
       (ap (asks_frame s.is_open) (sym is) ∙ refused_by (asks_frame s.is_open f) e told, record { rest = record { chip = chip; chooser = chooser; is_open = is_open; tables = tables }; ledger = ledger })

@@ -3,6 +3,7 @@
 -- OpenInv       an open store is sound, and seats, map and pages follow from the history
 -- Inv           that, or a store that is shut and has refused every call
 -- Plain         an entry that says nothing of pages
+use Rattle.chip.specs.Meaning.{Meaning}
 use Rattle.std.proofs.Common.{◌≡◌, ℕ, ◌<◌, Bool, true, false, ◌∷◌, length, Some, None, Ok, Err, MatchBool, Option, Result, sym, refl, ap, ◌∙◌, subst, arith}
 use Rattle.ledger.specs.declared.frame.Frame.{Frame}
 use Rattle.ledger.specs.declared.seat.Seat.{Seat}
@@ -31,38 +32,38 @@ pub record Plain (e : Entry) : Type 0 where
   pub answered : (l : ℕ → Seat) → Answered e l
   pub says : (f : Frame) (h : History) → OnPages f e h
 
-module _ {H : Type 0} where
-  abbrev pub FollowsFrom : History → Standing H → Type 0
+module _ {C H : Type 0} {means : C → Meaning} where
+  abbrev pub FollowsFrom : History → Standing means H → Type 0
   FollowsFrom h s = Follows s.ledger.frame h (λ i. seat_of (books_of s.ledger) i) (maps_of s.tables) s.chip.pages
 
-  pub record OpenInv (h : History) (s : Standing H) : Type 0 where
+  pub record OpenInv (h : History) (s : Standing means H) : Type 0 where
     pub sound : OpenSound s
     pub follows : FollowsFrom h s
 
-  abbrev pub Inv : History → Standing H → Type 0
+  abbrev pub Inv : History → Standing means H → Type 0
   Inv h s = MatchBool s.is_open (OpenInv h s) (ShutPromise h)
 
-  pub inv_open : (h : History) (s : Standing H) → s.is_open ≡ true → Inv h s → OpenInv h s
+  pub inv_open : (h : History) (s : Standing means H) → s.is_open ≡ true → Inv h s → OpenInv h s
   inv_open h s is inv = subst (λ o. MatchBool o (OpenInv h s) (ShutPromise h)) is inv
 
-  pub inv_shut : (h : History) (s : Standing H) → s.is_open ≡ false → Inv h s → ShutPromise h
+  pub inv_shut : (h : History) (s : Standing means H) → s.is_open ≡ false → Inv h s → ShutPromise h
   inv_shut h s is inv = subst (λ o. MatchBool o (OpenInv h s) (ShutPromise h)) is inv
 
-  pub open_inv : (h : History) (s : Standing H) → s.is_open ≡ true → OpenInv h s → Inv h s
+  pub open_inv : (h : History) (s : Standing means H) → s.is_open ≡ true → OpenInv h s → Inv h s
   open_inv h s is inv = subst (λ o. MatchBool o (OpenInv h s) (ShutPromise h)) (sym is) inv
 
-  pub shut_inv : (h : History) (s : Standing H) → s.is_open ≡ false → ShutPromise h → Inv h s
+  pub shut_inv : (h : History) (s : Standing means H) → s.is_open ≡ false → ShutPromise h → Inv h s
   shut_inv h s is inv = subst (λ o. MatchBool o (OpenInv h s) (ShutPromise h)) (sym is) inv
 
   -- the ledger keeps these at all times
-  pub eight_seats : (s : Standing H) → length (books_of s.ledger).seats ≡ 8
+  pub eight_seats : (s : Standing means H) → length (books_of s.ledger).seats ≡ 8
   eight_seats s = (fair_of s.ledger).eight
 
-  pub some_pages : (s : Standing H) → 0 < s.ledger.frame.pages_per_block
+  pub some_pages : (s : Standing means H) → 0 < s.ledger.frame.pages_per_block
   some_pages s = let low = (fair_of s.ledger).yields in let high = (fair_of s.ledger).yields_within in omega arith
 
   -- what follows is of frame, map and pages alone
-  pub follows_along : (h : History) (s t : Standing H) → t.ledger.frame ≡ s.ledger.frame → SameButBooks s t
+  pub follows_along : (h : History) (s t : Standing means H) → t.ledger.frame ≡ s.ledger.frame → SameButBooks s t
       → Follows s.ledger.frame h (λ i. seat_of (books_of t.ledger) i) (maps_of s.tables) s.chip.pages → FollowsFrom h t
   follows_along h s t frame rest follows =
       subst (λ f. Follows f h (λ i. seat_of (books_of t.ledger) i) (maps_of t.tables) t.chip.pages) (sym frame)
@@ -71,7 +72,7 @@ module _ {H : Type 0} where
 
   -- ---- a call that touches the ledger alone
 
-  module _ (h : History) (s t : Standing H) where
+  module _ (h : History) (s t : Standing means H) where
     -- by the books after it
     pub call_open : (e : Entry) (after : Books) → s.is_open ≡ true → SameButBooks s t → books_of t.ledger ≡ after → after.frame ≡ s.ledger.frame → Sound t
         → is_call e ≡ true → Still e → Answered e (λ i. seat_of (books_of s.ledger) i) → OnPages s.ledger.frame e h
@@ -125,7 +126,7 @@ module _ {H : Type 0} where
 
   -- ---- a call that changes nothing
 
-  pub same_sound : (s t : Standing H) → Same s t → OpenSound s → OpenSound t
+  pub same_sound : (s t : Standing means H) → Same s t → OpenSound s → OpenSound t
   same_sound s t same sound =
       record {
         at = subst (λ m. SoundAt m (books_of t.ledger) t.tables) (sym same.rest.chip)
@@ -134,7 +135,7 @@ module _ {H : Type 0} where
         settled = subst (λ l. Settled (books_of l)) (sym same.ledger) sound.settled;
       }
 
-  pub same_inv : (h : History) (s t : Standing H) (e : Entry) → s.is_open ≡ true → Same s t → OpenInv h s → FollowsFrom (e ∷ h) s → Inv (e ∷ h) t
+  pub same_inv : (h : History) (s t : Standing means H) (e : Entry) → s.is_open ≡ true → Same s t → OpenInv h s → FollowsFrom (e ∷ h) s → Inv (e ∷ h) t
   same_inv h s t e is same inv follows =
       open_inv (e ∷ h) t (same.rest.is_open ∙ is) (record {
         sound = same_sound s t same inv.sound;

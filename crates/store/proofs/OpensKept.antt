@@ -46,7 +46,7 @@ refused_for m numbers alpha pool e is =
     (λ is. question (yield_rule m.blocks m.per_block numbers (pool + m.allowance) alpha) YieldRuleFails None e P is (omega arith, omega arith)
     (λ is. no_question e (P e) is))))
 
-module _ {H : Type 0} (h : History) (s t : Standing H) where
+module _ {C H : Type 0} {means : C → Meaning} (h : History) (s t : Standing means H) where
   opened_follows : (numbers alpha pool : ℕ) → Opened s numbers alpha pool t → ShutPromise h
       → Follows t.ledger.frame (opened numbers alpha pool ∷ erased_first s.chip.blocks h) (λ i. seat_of (books_of t.ledger) i) (maps_of t.tables) t.chip.pages
   opened_follows numbers alpha pool o shut =

@@ -1,4 +1,5 @@
 -- A whole tick.
+use Rattle.chip.specs.Meaning.{Meaning}
 use Rattle.std.proofs.Common.{◌≡◌, ℕ, true, false, [], Ok, Err, Result, sym, ◌∙◌, subst, arith}
 use Rattle.std.proofs.lemmas.Bool.{true≢false}
 use Rattle.ledger.specs.declared.refusal.Refusal.{Refusal}
@@ -11,8 +12,8 @@ use Rattle.store.specs.Effects.{desk_of, Passed, Ticks}
 use Rattle.store.specs.Walking.{Walked}
 use Rattle.store.proofs.Booking.{sound_open, open_sound}
 
-module _ {H : Type 0} where
-  pub passed_all : (s : Standing H) → s.is_open ≡ true → (done : ℕ) (l : Ticked) (t : Standing H) → done ≡ 8 → Walked (record { runs = 0; recycles = 0; copies = 0; tries = 0 }) s done l t
+module _ {C H : Type 0} {means : C → Meaning} where
+  pub passed_all : (s : Standing means H) → s.is_open ≡ true → (done : ℕ) (l : Ticked) (t : Standing means H) → done ≡ 8 → Walked (record { runs = 0; recycles = 0; copies = 0; tries = 0 }) s done l t
       → (h : History) → ((h' : History) × Passed s l h h' t)
   passed_all s opened done l t all y h =
       let v = y.goes (books_of s.ledger) (desk_of h s) h begun in (
@@ -28,6 +29,6 @@ module _ {H : Type 0} where
       )
 
   -- an open store is sound after its tick, whatever the tick answers
-  pub ticked_sound : (s t : Standing H) (r : Result Ticked Refusal) → s.is_open ≡ true → t.is_open ≡ true → Ticks s r t → OpenSound t
+  pub ticked_sound : (s t : Standing means H) (r : Result Ticked Refusal) → s.is_open ≡ true → t.is_open ≡ true → Ticks s r t → OpenSound t
   ticked_sound s t (Ok k) is after did = sound_open t after (did []).1.sound
   ticked_sound s t (Err e) is after did = absurd (true≢false (sym is ∙ did.0))

@@ -1,4 +1,5 @@
 -- Every history that the calls of a store can make keeps the promise.
+use Rattle.chip.specs.Meaning.{Meaning}
 use Rattle.std.proofs.Common.{◌≡◌, Bool, true, false, [], MatchBool, sym, refl, subst}
 use Rattle.ledger.specs.Books.{seat_of}
 use Rattle.ledger.specs.Of.{books_of}
@@ -16,8 +17,8 @@ use Rattle.store.proofs.SavesKept.{stored_inv, no_store_inv}
 use Rattle.store.proofs.ReadsKept.{read_inv}
 use Rattle.store.proofs.TicksKept.{tick_inv}
 
-module _ {H : Type 0} where
-  pub run_inv : {h : History} {s : Standing H} → Run h s → Inv h s
+module _ {C H : Type 0} {means : C → Meaning} where
+  pub run_inv : {h : History} {s : Standing means H} → Run h s → Inv h s
   run_inv (fresh {s = s} shut) = shut_inv [] s shut tt
   run_inv (then_open {h = h} {s = s} {t = t} numbers alpha pool r run e) = open_call_inv h s t numbers alpha pool r e (run_inv run)
   run_inv (then_admit {h = h} {s = s} {t = t} i p w r run e) = admit_inv h s t i p w r e (run_inv run)
@@ -30,7 +31,7 @@ module _ {H : Type 0} where
   run_inv (then_tick {h = h} {h' = h'} {s = s} {t = t} k run e) = tick_inv h h' s t k e (run_inv run)
   run_inv (then_no_tick {h = h} {s = s} {t = t} x run e) = no_tick_inv h s t x e (run_inv run)
 
-  module _ (h : History) (s : Standing H) (inv : Inv h s) where
+  module _ (h : History) (s : Standing means H) (inv : Inv h s) where
     sound_by : (o : Bool) → s.is_open ≡ o → Sound s
     sound_by true is = open_sound s is (inv_open h s is inv).sound
     sound_by false is = subst (λ o. MatchBool o (OpenSound s) (Unit {0})) (sym is) tt
@@ -43,8 +44,8 @@ module _ {H : Type 0} where
         (sym at.blocks) (sym at.per_block) (sym at.page_size)
     promised_by false is = shut_promised s.chip h (view_of s) (inv_shut h s is inv)
 
-  pub run_sound : {h : History} {s : Standing H} → Run h s → Sound s
+  pub run_sound : {h : History} {s : Standing means H} → Run h s → Sound s
   run_sound {h} {s} run = sound_by h s (run_inv run) s.is_open refl
 
-  pub run_promised : {h : History} {s : Standing H} → Run h s → Promised s.chip h (view_of s)
+  pub run_promised : {h : History} {s : Standing means H} → Run h s → Promised s.chip h (view_of s)
   run_promised {h} {s} run = promised_by h s (run_inv run) s.is_open refl

@@ -50,7 +50,7 @@ in_range is_open b n room stored is known =
     cond-true is_open (cond (ltb n b.frame.numbers) (read_from stored room) (Err NoSuchNumber)) (Err NotOpen) is
     ∙ cond-true (ltb n b.frame.numbers) (read_from stored room) (Err NoSuchNumber) (lt-ltb n b.frame.numbers known)
 
-module _ {H : Type 0} (s t : Standing H) (n : ℕ) (before after : List ℕ) where
+module _ {C H : Type 0} {means : C → Meaning} (s t : Standing means H) (n : ℕ) (before after : List ℕ) where
   -- a fetch from the page that the map names is refused only where the buffer is too short
   pub too_short : s.is_open ≡ true → Same s t → n < (books_of s.ledger).frame.numbers → (q : ℕ) → (n < 1920 → Some q ≡ maps_of s.tables n) → Sound s
       → (e : ChipRefusal) → Err e ≡ fetched s.chip q (length before) → after ≡ before → Reads s n before (Err BufferTooShort) t after
@@ -66,10 +66,10 @@ module _ {H : Type 0} (s t : Standing H) (n : ℕ) (before after : List ℕ) whe
       )
 
 -- the same of a store that has its parts
-module _ {H : Type 0} (m m' : Meaning) (c : H) {was : Option Open} {o : Open} (is : was ≡ Some o) (sound : Sound (standing m c was)) (n : ℕ) (before after : List ℕ) where
-  pub short : m' ≡ m → n < o.ledger.frame.numbers → (q : ℕ) → (n < 1920 → Some q ≡ maps_of o.tables n)
-      → (e : ChipRefusal) → Err e ≡ fetched m q (length before) → after ≡ before → Reads (standing m c was) n before (Err BufferTooShort) (standing m' c was) after
+module _ {C H : Type 0} (means : C → Meaning) (k k' : C) (c : H) {was : Option Open} {o : Open} (is : was ≡ Some o) (sound : Sound (standing means k c was)) (n : ℕ) (before after : List ℕ) where
+  pub short : means k' ≡ means k → n < o.ledger.frame.numbers → (q : ℕ) → (n < 1920 → Some q ≡ maps_of o.tables n)
+      → (e : ChipRefusal) → Err e ≡ fetched (means k) q (length before) → after ≡ before → Reads (standing means k c was) n before (Err BufferTooShort) (standing means k' c was) after
   short same known q named e told stays =
-      subst (λ (x : Option Open). Reads (standing m c x) n before (Err BufferTooShort) (standing m' c x) after) (sym is)
-      (too_short (standing m c (Some o)) (standing m' c (Some o)) n before after refl (record { rest = record { chip = same; chooser = refl; is_open = refl; tables = refl }; ledger = refl })
-      known q named (opened_sound is sound) e told stays)
+      subst (λ (x : Option Open). Reads (standing means k c x) n before (Err BufferTooShort) (standing means k' c x) after) (sym is)
+      (too_short (standing means k c (Some o)) (standing means k' c (Some o)) n before after refl (record { rest = record { chip = same; chooser = refl; is_open = refl; tables = refl }; ledger = refl })
+      known q named (opened_sound means k c is sound) e told stays)

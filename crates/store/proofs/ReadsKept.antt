@@ -3,7 +3,7 @@ use Rattle.std.proofs.Common.{◌≡◌, ℕ, Bool, true, false, cond, ltb, leb,
 use lib.Seq.{take-append_seam}
 use Rattle.std.proofs.lemmas.List.{get_or_default}
 use Rattle.std.proofs.lemmas.Bool.{ltb-false, leb-true, leb-false}
-use Rattle.chip.specs.Meaning.{free, spoiled, written, page_at}
+use Rattle.chip.specs.Meaning.{free, spoiled, written, page_at, Meaning}
 use Rattle.chip.specs.Calls.{data_of}
 use Rattle.ledger.specs.declared.refusal.Refusal.{Refusal}
 use Rattle.ledger.specs.declared.refusal.Refusal.TheVariants.{NoSuchNumber, BufferTooShort}
@@ -16,7 +16,7 @@ use Rattle.store.specs.Effects.{stored_at, read_from, read_told, read_into, Same
 use Rattle.store.specs.Calls.{entry_read, bytes_read}
 use Rattle.store.proofs.Invariant.{Inv, OpenInv, inv_open, shut_call, same_inv, some_pages}
 
-module _ {H : Type 0} (h : History) (s t : Standing H) (n : ℕ) (before : List ℕ) (same : Same s t) where
+module _ {C H : Type 0} {means : C → Meaning} (h : History) (s t : Standing means H) (n : ℕ) (before : List ℕ) (same : Same s t) where
   -- what is entered for an answer, with the bytes that stand there
   abbrev Enters : Option (List ℕ) → Result ℕ Refusal → Type 0
   Enters bytes r = Inv (entry_read n (length before) (bytes_read r (read_into r bytes before)) r ∷ h) t
@@ -56,7 +56,7 @@ module _ {H : Type 0} (h : History) (s t : Standing H) (n : ℕ) (before : List 
   read_either true is inv = read_known (ltb n s.ledger.frame.numbers) refl is (inv_open h s is inv)
   read_either false is inv = shut_call h s t (refused (read n (length before)) 6) is same.rest refl inv
 
-pub read_inv : {H : Type 0} (h : History) (s t : Standing H) (n : ℕ) (before after : List ℕ) (r : Result ℕ Refusal) → Reads s n before r t after
+pub read_inv : {C H : Type 0} {means : C → Meaning} (h : History) (s t : Standing means H) (n : ℕ) (before after : List ℕ) (r : Result ℕ Refusal) → Reads s n before r t after
     → Inv h s → Inv (entry_read n (length before) (bytes_read r after) r ∷ h) t
 read_inv h s t n before after r e inv =
     let bytes = stored_at s.chip (maps_of s.tables n) in

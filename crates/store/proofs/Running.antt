@@ -52,7 +52,7 @@ recycle_told m b t s copies tries n u r h =
       start = r.start ∙ ap (λ x. after_wipe x r.block r.passed.start) per;
     }
 
-module _ {H : Type 0} (n i : ℕ) (k : Ticked) (s : Standing H) (can : CanRun n i k s) where
+module _ {C H : Type 0} {means : C → Meaning} (n i : ℕ) (k : Ticked) (s : Standing means H) (can : CanRun n i k s) where
   fair : FairBooks (books_of s.ledger)
   fair = fair_of s.ledger
 
@@ -68,7 +68,7 @@ module _ {H : Type 0} (n i : ℕ) (k : Ticked) (s : Standing H) (can : CanRun n 
     books_run : books_of l ≡ ran_once (books_of s.ledger) i
     books_run = made ∙ made_one_is (books_of s.ledger) i fair can.owing
 
-    pub ran_free : Ran n i k s (one_run k) (record { chip = s.chip; chooser = s.chooser; is_open = s.is_open; ledger = l; tables = s.tables })
+    pub ran_free : Ran n i k s (one_run k) (record { chip = s.chip; of = s.of; is = s.is; chooser = s.chooser; is_open = s.is_open; ledger = l; tables = s.tables })
     ran_free =
         record {
           between =
@@ -97,7 +97,7 @@ module _ {H : Type 0} (n i : ℕ) (k : Ticked) (s : Standing H) (can : CanRun n 
     pub ready : CanRecycle s.chip s.tables (books_of s.ledger).frame.alpha
     ready = can_recycle s.chip (books_of s.ledger) s.tables can.sound i fair can.owing can.but short
 
-    module _ (chip : Meaning) (chooser : H) (d : Emptied) (tables : Tables) (r : Recycled s.chip s.tables (books_of s.ledger).frame.alpha d.copies d.tries chip tables)
+    module _ (chip : C) (chooser : H) (d : Emptied) (tables : Tables) (r : Recycled s.chip s.tables (books_of s.ledger).frame.alpha d.copies d.tries (means chip) tables)
         (between l : Ledger) (paid : books_of between ≡ paid_for (d.tries - d.copies) (books_of s.ledger)) (made : books_of l ≡ made_one (books_of between) i) where
       owed : 0 < owes (books_of between) i
       owed = subst (λ c. 0 < owes c i) (sym paid) can.owing
@@ -117,14 +117,14 @@ module _ {H : Type 0} (n i : ℕ) (k : Ticked) (s : Standing H) (can : CanRun n 
         omega (arith, can.few.copies, can.few.tries, few_copies, r.failed, can.little),
       )
 
-      pub ran_recycled : Ran n i k s (one_recycle k d) (record { chip = chip; chooser = chooser; is_open = s.is_open; ledger = l; tables = tables })
+      pub ran_recycled : Ran n i k s (one_recycle k d) (record { chip = means chip; of = chip; is = refl; chooser = chooser; is_open = s.is_open; ledger = l; tables = tables })
       ran_recycled =
           record {
             between =
                 record {
                   sound =
-                      subst (λ b. SoundAt chip b tables) (sym books_recycled)
-                      (sound_recycled s.chip (books_of s.ledger) s.tables can.sound i there d.copies d.tries chip tables r);
+                      subst (λ b. SoundAt (means chip) b tables) (sym books_recycled)
+                      (sound_recycled s.chip (books_of s.ledger) s.tables can.sound i there d.copies d.tries (means chip) tables r);
                   few =
                       record {
                         runs = omega (arith, can.few.runs);
@@ -139,10 +139,10 @@ module _ {H : Type 0} (n i : ℕ) (k : Ticked) (s : Standing H) (can : CanRun n 
             goes = λ b x h w. (
               erased r.block ∷ (r.answers h).0,
               subst
-                  (λ c. Walk b x i true (k.runs + 1) (k.recycles + 1) (k.copies + d.copies) (k.tries + d.tries) c (record { past = erased r.block ∷ (r.answers h).0; maps = maps_of tables; pages = chip.pages; start = tables.start }))
+                  (λ c. Walk b x i true (k.runs + 1) (k.recycles + 1) (k.copies + d.copies) (k.tries + d.tries) c (record { past = erased r.block ∷ (r.answers h).0; maps = maps_of tables; pages = (means chip).pages; start = tables.start }))
                   (sym books_recycled)
                   (runs_recycled w can.owing short
-                  (recycle_told s.chip (books_of s.ledger) s.tables can.sound d.copies d.tries chip tables r h)),
+                  (recycle_told s.chip (books_of s.ledger) s.tables can.sound d.copies d.tries (means chip) tables r h)),
             );
             owing =
                 ap (λ c. owes c i + 1) (made ∙ made_one_is (books_of between) i (fair_of between) owed) ∙ owes_less (books_of between) i (fair_of between) owed ∙ ap (λ c. owes c i) paid;

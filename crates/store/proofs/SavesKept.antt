@@ -1,4 +1,5 @@
 -- A save, stored or refused, keeps what is true of a store and its history.
+use Rattle.chip.specs.Meaning.{Meaning}
 use Rattle.std.proofs.Common.{◌≡◌, ℕ, ◌<◌, ◌≤◌, Bool, true, false, cond, ltb, leb, List, ◌∷◌, length, Some, None, Ok, Err, Option, sym, refl, ap, ◌∙◌, subst, arith}
 use Rattle.std.proofs.lemmas.Bool.{ltb-true, ltb-false, leb-true, leb-false, cond-false}
 use Rattle.ledger.specs.declared.refusal.Refusal.{Refusal}
@@ -69,7 +70,7 @@ not_for_range b n d e keeps = (
   (λ is. let z : true ≡ false = sym (ap hands_back is) ∙ keeps in let y : ◌≡◌ {A = ℕ} 0 1 = cc in absurd (omega arith)),
 )
 
-module _ {H : Type 0} (s t : Standing H) (i n : ℕ) (d : List ℕ) where
+module _ {C H : Type 0} {means : C → Meaning} (s t : Standing means H) (i n : ℕ) (d : List ℕ) where
   pub stored_inv : (h h' : History) (tries : ℕ) → asks_save s.is_open (books_of s.ledger) i n (length d) ≡ None → Stored s i n d tries h h' t
       → Inv h s → Inv (entry_save i n d (Ok tries) ∷ h') t
   stored_inv h h' tries none e inv =

@@ -112,7 +112,7 @@ module _ (m m' : Meaning) (b : Books) (t t' : Tables) (i n tries : ℕ) (d : Lis
         room = omega (arith, one, few, at.room, wrote.failed, at.spare);
       }
 
-module _ {H : Type 0} (s t : Standing H) (i n : ℕ) (d : List ℕ) where
+module _ {C H : Type 0} {means : C → Meaning} (s t : Standing means H) (i n : ℕ) (d : List ℕ) where
   pub saves_on : asks_save s.is_open (books_of s.ledger) i n (length d) ≡ None → Sound s → (tries : ℕ) → (paying : Ledger) → (failed : ℕ) → failed ≡ tries - 1
       → (CanWrite s.chip s.tables None n (length d) → Wrote s.chip s.tables None n d tries t.chip t.tables)
       → t.chooser ≡ s.chooser → t.is_open ≡ s.is_open → books_of paying ≡ paid_for failed (books_of s.ledger)
@@ -163,7 +163,7 @@ pub none_by : (q : Option Refusal) (x : Unit {0}) → ◌≡◌ {A = Result (Uni
 none_by None x told = refl
 none_by (Some e) x told = (let z : ◌≡◌ {A = ℕ} 0 1 = cc in absurd (omega arith))
 
-module _ {H : Type 0} (s : Standing H) (i n : ℕ) (d : List ℕ) (is : s.is_open ≡ true) where
+module _ {C H : Type 0} {means : C → Meaning} (s : Standing means H) (i n : ℕ) (d : List ℕ) (is : s.is_open ≡ true) where
   -- nothing is refused
   pub asked_all : (x y : Unit {0}) → ◌≡◌ {A = Result (Unit {0}) Refusal} (Ok x) (answer (asks_return (books_of s.ledger) i) tt)
       → ◌≡◌ {A = Result (Unit {0}) Refusal} (Ok y) (answer (asks_page (books_of s.ledger) n (length d)) tt) → asks_save s.is_open (books_of s.ledger) i n (length d) ≡ None
@@ -172,22 +172,22 @@ module _ {H : Type 0} (s : Standing H) (i n : ℕ) (d : List ℕ) (is : s.is_ope
       ap (λ o. if_open o (and_then (asks_return b i) (asks_page b n (length d)))) is ∙ ap (λ q. and_then q (asks_page b n (length d))) (none_by (asks_return b i) x out) ∙ none_by (asks_page b n (length d)) y told
 
 -- a whole save of an open store: seat, number and length were found good
-module _ {H : Type 0} (m : Meaning) (c : H) {was : Option Open} {o : Open} (is : was ≡ Some o) (sound : Sound (standing m c was)) (i n : ℕ) (d : List ℕ) {x y : Unit {0}}
+module _ {C H : Type 0} (means : C → Meaning) (k : C) (c : H) {was : Option Open} {o : Open} (is : was ≡ Some o) (sound : Sound (standing means k c was)) (i n : ℕ) (d : List ℕ) {x y : Unit {0}}
     (out : ◌≡◌ {A = Result (Unit {0}) Refusal} (Ok x) (answer (asks_return (books_of o.ledger) i) tt)) (fits : ◌≡◌ {A = Result (Unit {0}) Refusal} (Ok y) (answer (asks_page (books_of o.ledger) n (length d)) tt)) where
   none : asks_save true (books_of o.ledger) i n (length d) ≡ None
-  none = asked_all (standing m c (Some o)) i n d refl x y out fits
+  none = asked_all (standing means k c (Some o)) i n d refl x y out fits
 
-  module _ (m' : Meaning) (u : Tables) where
-    pub always_written : (CanWrite m o.tables None n (length d) → ⊥) → ⊥
-    always_written refused = never_stuck (standing m c (Some o)) (standing m c (Some o)) i n d none (opened_sound is sound) refused
+  module _ (k' : C) (u : Tables) where
+    pub always_written : (CanWrite (means k) o.tables None n (length d) → ⊥) → ⊥
+    always_written refused = never_stuck (standing means k c (Some o)) (standing means k c (Some o)) i n d none (opened_sound means k c is sound) refused
 
-    module _ (tries : ℕ) (paying l : Ledger) (failed : ℕ) (less : failed ≡ tries - 1) (writes : CanWrite m o.tables None n (length d) → Wrote m o.tables None n d tries m' u)
+    module _ (tries : ℕ) (paying l : Ledger) (failed : ℕ) (less : failed ≡ tries - 1) (writes : CanWrite (means k) o.tables None n (length d) → Wrote (means k) o.tables None n d tries (means k') u)
         (paid : books_of paying ≡ paid_for failed (books_of o.ledger)) (made : books_of l ≡ unless (asks_return (books_of paying) i) (spent (books_of paying) i) (books_of paying)) where
-      done : Saves (standing m c (Some o)) i n d (Ok tries) (standing m' c (Some (record { ledger = l; tables = u })))
-      done = saves_on (standing m c (Some o)) (standing m' c (Some (record { ledger = l; tables = u }))) i n d none (opened_sound is sound) tries paying failed less writes refl refl paid made
+      done : Saves (standing means k c (Some o)) i n d (Ok tries) (standing means k' c (Some (record { ledger = l; tables = u })))
+      done = saves_on (standing means k c (Some o)) (standing means k' c (Some (record { ledger = l; tables = u }))) i n d none (opened_sound means k c is sound) tries paying failed less writes refl refl paid made
 
-      pub saved : Saves (standing m c was) i n d (Ok tries) (standing m' c (Some (record { ledger = l; tables = u })))
-      saved = from_open is sound (λ z. Saves z i n d (Ok tries) (standing m' c (Some (record { ledger = l; tables = u })))) done
+      pub saved : Saves (standing means k c was) i n d (Ok tries) (standing means k' c (Some (record { ledger = l; tables = u })))
+      saved = from_open means k c is sound (λ z. Saves z i n d (Ok tries) (standing means k' c (Some (record { ledger = l; tables = u })))) done
 
-      pub saved_sound : OpenSound (standing m' c (Some (record { ledger = l; tables = u })))
+      pub saved_sound : OpenSound (standing means k' c (Some (record { ledger = l; tables = u })))
       saved_sound = ((done).1 []).1.sound

@@ -1,4 +1,5 @@
 -- The calls on seats and permits keep what is true of a store and its history.
+use Rattle.chip.specs.Meaning.{Meaning}
 use Rattle.std.proofs.Common.{◌≡◌, ℕ, ◌∷◌, Some, None, Result, refl}
 use Rattle.plan.specs.declared.numbers.Plan.{Plan}
 use Rattle.plan.specs.Plan.{plan_of, planned}
@@ -24,7 +25,7 @@ plan_is b i p w none =
     let same = (planned_ranged b.frame.alpha p w told.2.0 is).is in
     cc
 
-module _ {H : Type 0} (h : History) (s t : Standing H) (i : ℕ) where
+module _ {C H : Type 0} {means : C → Meaning} (h : History) (s t : Standing means H) (i : ℕ) where
   pub take_inv : (r : Result Permit Refusal) → Takes s i r t → Inv h s → Inv (entry_take i r ∷ h) t
   take_inv r e =
       let b = books_of s.ledger in

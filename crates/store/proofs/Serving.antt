@@ -29,8 +29,8 @@ few_more n p k m more few =
 same_size_on : (m n o : Meaning) → SameSize m n → SameSize n o → SameSize m o
 same_size_on m n o a b = record { blocks = b.blocks ∙ a.blocks; per_block = b.per_block ∙ a.per_block; page_size = b.page_size ∙ a.page_size }
 
-module _ {H : Type 0} where
-  between_on : (n p : ℕ) (k l j : Ticked) (s t u : Standing H) → Between n k s l t → Between p l t j u → Between p k s j u
+module _ {C H : Type 0} {means : C → Meaning} where
+  between_on : (n p : ℕ) (k l j : Ticked) (s t u : Standing means H) → Between n k s l t → Between p l t j u → Between p k s j u
   between_on n p k l j s t u a b =
       record {
         sound = b.sound;
@@ -42,7 +42,7 @@ module _ {H : Type 0} where
 
   -- ---- the runs of one seat
 
-  module _ (n i due done : ℕ) (k : Ticked) (s : Standing H) (g : Begun n i k s due) (l : Ticked) (t : Standing H) (y : Midway n i k s done l t) (more : done < due) where
+  module _ (n i due done : ℕ) (k : Ticked) (s : Standing means H) (g : Begun n i k s due) (l : Ticked) (t : Standing means H) (y : Midway n i k s done l t) (more : done < due) where
     pub midway_can : CanRun (n + done) i l t
     midway_can =
         record {
@@ -53,7 +53,7 @@ module _ {H : Type 0} where
           but = y.but;
         }
 
-    pub midway_more : (j : Ticked) (u : Standing H) → Ran (n + done) i l t j u → Midway n i k s (done + 1) j u
+    pub midway_more : (j : Ticked) (u : Standing means H) → Ran (n + done) i l t j u → Midway n i k s (done + 1) j u
     midway_more j u r =
         let e : n + done + 1 ≡ n + (done + 1) = omega arith in
         record {
@@ -65,10 +65,10 @@ module _ {H : Type 0} where
 
   -- ---- a seat
 
-  module _ (n i : ℕ) (k : Ticked) (s : Standing H) (can : CanServe n i k s) where
+  module _ (n i : ℕ) (k : Ticked) (s : Standing means H) (can : CanServe n i k s) where
     -- an empty seat is passed
     pub served_unused : (c : Ledger) → used_seat (books_of s.ledger) i ≡ false → books_of c ≡ books_of s.ledger
-        → Served n i k s k (record { chip = s.chip; chooser = s.chooser; is_open = s.is_open; ledger = c; tables = s.tables })
+        → Served n i k s k (record { chip = s.chip; of = s.of; is = s.is; chooser = s.chooser; is_open = s.is_open; ledger = c; tables = s.tables })
     served_unused c none same =
         record {
           between =
@@ -85,11 +85,11 @@ module _ {H : Type 0} where
 
     -- a seat in use: entered, its runs made, and ended
     module _ (e : Ledger) (used : used_seat (books_of s.ledger) i ≡ true) (enter : books_of e ≡ entered (books_of s.ledger) i) where
-      abbrev pub at_seat : Standing H
-      at_seat = record { chip = s.chip; chooser = s.chooser; is_open = s.is_open; ledger = e; tables = s.tables }
+      abbrev pub at_seat : Standing means H
+      at_seat = record { chip = s.chip; of = s.of; is = s.is; chooser = s.chooser; is_open = s.is_open; ledger = e; tables = s.tables }
 
-      pub served_used : (due : ℕ) (l : Ticked) (t : Standing H) (c : Ledger) → Begun n i k at_seat due → Midway n i k at_seat due l t → books_of c ≡ ended (books_of t.ledger) i
-          → Served n i k s l (record { chip = t.chip; chooser = t.chooser; is_open = t.is_open; ledger = c; tables = t.tables })
+      pub served_used : (due : ℕ) (l : Ticked) (t : Standing means H) (c : Ledger) → Begun n i k at_seat due → Midway n i k at_seat due l t → books_of c ≡ ended (books_of t.ledger) i
+          → Served n i k s l (record { chip = t.chip; of = t.of; is = t.is; chooser = t.chooser; is_open = t.is_open; ledger = c; tables = t.tables })
       served_used due l t c g y close =
           let none : owes (books_of t.ledger) i ≡ 0 = omega (arith, y.owing, g.owing) in
           let fair = fair_of t.ledger in
@@ -111,11 +111,11 @@ module _ {H : Type 0} where
 
   -- ---- the seats of a tick
 
-  module _ (k : Ticked) (s : Standing H) (done : ℕ) (l : Ticked) (t : Standing H) (y : Walked k s done l t) (more : done < 8) where
+  module _ (k : Ticked) (s : Standing means H) (done : ℕ) (l : Ticked) (t : Standing means H) (y : Walked k s done l t) (more : done < 8) where
     pub walked_can : CanServe (1024 * done) done l t
     walked_can = record { sound = y.between.sound; few = y.between.few; little = omega arith; seat = more; settled = y.settled }
 
-    pub walked_more : (j : Ticked) (u : Standing H) → Served (1024 * done) done l t j u → Walked k s (done + 1) j u
+    pub walked_more : (j : Ticked) (u : Standing means H) → Served (1024 * done) done l t j u → Walked k s (done + 1) j u
     walked_more j u r =
         let e : 1024 * done + 1024 ≡ 1024 * (done + 1) = omega arith in
         record {
@@ -127,7 +127,7 @@ module _ {H : Type 0} where
 -- ---- where a seat begins
 
 -- a seat in use was entered
-module _ {H : Type 0} (n i : ℕ) (k : Ticked) (s : Standing H) (can : CanServe n i k s) (e : Ledger) (used : used_seat (books_of s.ledger) i ≡ true)
+module _ {C H : Type 0} {means : C → Meaning} (n i : ℕ) (k : Ticked) (s : Standing means H) (can : CanServe n i k s) (e : Ledger) (used : used_seat (books_of s.ledger) i ≡ true)
     (step : books_of e ≡ stepped (books_of s.ledger) i) where
   pub entered_so : books_of e ≡ entered (books_of s.ledger) i
   entered_so = step ∙ stepped_is (books_of s.ledger) i can.settled used
@@ -140,7 +140,7 @@ module _ {H : Type 0} (n i : ℕ) (k : Ticked) (s : Standing H) (can : CanServe 
         | inr none ↦ (let o = cond-false (used_seat (books_of e) i) (due (seat_of (books_of e) i) - (seat_of (books_of e) i).runs) 0 none in omega (arith, o))
       ]
 
-  pub begun_so : (owed : ℕ) → owed ≡ owes (books_of e) i → Begun n i k (record { chip = s.chip; chooser = s.chooser; is_open = s.is_open; ledger = e; tables = s.tables }) owed
+  pub begun_so : (owed : ℕ) → owed ≡ owes (books_of e) i → Begun {means = means} n i k (record { chip = s.chip; of = s.of; is = s.is; chooser = s.chooser; is_open = s.is_open; ledger = e; tables = s.tables }) owed
   begun_so owed is =
       record {
         sound =

@@ -1,4 +1,5 @@
 -- A tick keeps what is true of a store and its history.
+use Rattle.chip.specs.Meaning.{Meaning}
 use Rattle.std.proofs.Common.{◌≡◌, ℕ, List, ◌∷◌, get_or, Ok, sym, ap, ◌∙◌, subst, arith}
 use Rattle.ledger.specs.declared.frame.Frame.{Frame}
 use Rattle.ledger.specs.declared.seat.Seat.{Seat}
@@ -17,7 +18,7 @@ use Rattle.store.proofs.Booking.{sound_open}
 use Rattle.store.proofs.Invariant.{Inv, inv_open, open_inv, eight_seats, some_pages}
 use Rattle.store.proofs.WalksKept.{walked_at, walk_reached}
 
-pub tick_inv : {H : Type 0} (h h' : History) (s t : Standing H) (k : Ticked) → Passed s k h h' t → Inv h s → Inv (entry_tick (Ok k) ∷ h') t
+pub tick_inv : {C H : Type 0} {means : C → Meaning} (h h' : History) (s t : Standing means H) (k : Ticked) → Passed s k h h' t → Inv h s → Inv (entry_tick (Ok k) ∷ h') t
 tick_inv h h' s t k e inv =
     let b = books_of s.ledger in
     let eight = eight_seats s in

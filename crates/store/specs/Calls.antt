@@ -4,6 +4,7 @@
 -- Grows        a history with more answers of chip and chooser
 -- Run          the histories of a store that was just put together and then used by its calls alone
 -- Entered      a call was entered, and the promise is kept
+use Rattle.chip.specs.Meaning.{Meaning}
 use Rattle.std.specs.Prelude.{◌≡◌, ℕ, false, List, [], ◌∷◌, length, take, None, Ok, Err, Result}
 use Rattle.plan.specs.declared.numbers.Plan.{Plan}
 use Rattle.ledger.specs.declared.refusal.Refusal.{Refusal}
@@ -91,26 +92,26 @@ pub data Grows (h : History) : History → Type 0 where
   still : Grows h h
   heard : {h' : History} (e : Entry) → is_call e ≡ false → Grows h h' → Grows h (e ∷ h')
 
-module _ {H : Type 0} where
-  pub data Run : History → Standing H → Type 0 where
-    fresh : {s : Standing H} → s.is_open ≡ false → Run [] s
-    then_open : {h : History} {s t : Standing H} (numbers alpha pool : ℕ) (r : Result (Unit {0}) Refusal) → Run h s → Opens s numbers alpha pool r t
+module _ {C H : Type 0} {means : C → Meaning} where
+  pub data Run : History → Standing means H → Type 0 where
+    fresh : {s : Standing means H} → s.is_open ≡ false → Run [] s
+    then_open : {h : History} {s t : Standing means H} (numbers alpha pool : ℕ) (r : Result (Unit {0}) Refusal) → Run h s → Opens s numbers alpha pool r t
         → Run (entry_open numbers alpha pool r ∷ erases s.chip.blocks r h) t
-    then_admit : {h : History} {s t : Standing H} (i p w : ℕ) (r : Result Plan Refusal) → Run h s → Admits s i p w r t → Run (entry_admit i p w r ∷ h) t
-    then_notice : {h : History} {s t : Standing H} (i : ℕ) (r : Result (Unit {0}) Refusal) → Run h s → Notices s i r t → Run (entry_notice i r ∷ h) t
-    then_take : {h : History} {s t : Standing H} (i : ℕ) (r : Result Permit Refusal) → Run h s → Takes s i r t → Run (entry_take i r ∷ h) t
-    then_return : {h : History} {s t : Standing H} (i : ℕ) (r : Result (Unit {0}) Refusal) → Run h s → Returns s i r t → Run (entry_return i r ∷ h) t
-    then_store : {h h' : History} {s t : Standing H} (i n : ℕ) (d : List ℕ) (tries : ℕ) → Run h s
+    then_admit : {h : History} {s t : Standing means H} (i p w : ℕ) (r : Result Plan Refusal) → Run h s → Admits s i p w r t → Run (entry_admit i p w r ∷ h) t
+    then_notice : {h : History} {s t : Standing means H} (i : ℕ) (r : Result (Unit {0}) Refusal) → Run h s → Notices s i r t → Run (entry_notice i r ∷ h) t
+    then_take : {h : History} {s t : Standing means H} (i : ℕ) (r : Result Permit Refusal) → Run h s → Takes s i r t → Run (entry_take i r ∷ h) t
+    then_return : {h : History} {s t : Standing means H} (i : ℕ) (r : Result (Unit {0}) Refusal) → Run h s → Returns s i r t → Run (entry_return i r ∷ h) t
+    then_store : {h h' : History} {s t : Standing means H} (i n : ℕ) (d : List ℕ) (tries : ℕ) → Run h s
         → asks_save s.is_open (books_of s.ledger) i n (length d) ≡ None → Stored s i n d tries h h' t → Run (entry_save i n d (Ok tries) ∷ h') t
-    then_no_store : {h : History} {s t : Standing H} (i n : ℕ) (d : List ℕ) (e : Refusal) → Run h s → Saves s i n d (Err e) t → Run (entry_save i n d (Err e) ∷ h) t
-    then_read : {h : History} {s t : Standing H} (n : ℕ) (before after : List ℕ) (r : Result ℕ Refusal) → Run h s → Reads s n before r t after
+    then_no_store : {h : History} {s t : Standing means H} (i n : ℕ) (d : List ℕ) (e : Refusal) → Run h s → Saves s i n d (Err e) t → Run (entry_save i n d (Err e) ∷ h) t
+    then_read : {h : History} {s t : Standing means H} (n : ℕ) (before after : List ℕ) (r : Result ℕ Refusal) → Run h s → Reads s n before r t after
         → Run (entry_read n (length before) (bytes_read r after) r ∷ h) t
-    then_tick : {h h' : History} {s t : Standing H} (k : Ticked) → Run h s → Passed s k h h' t → Run (entry_tick (Ok k) ∷ h') t
-    then_no_tick : {h : History} {s t : Standing H} (e : Refusal) → Run h s → Ticks s (Err e) t → Run (entry_tick (Err e) ∷ h) t
+    then_tick : {h h' : History} {s t : Standing means H} (k : Ticked) → Run h s → Passed s k h h' t → Run (entry_tick (Ok k) ∷ h') t
+    then_no_tick : {h : History} {s t : Standing means H} (e : Refusal) → Run h s → Ticks s (Err e) t → Run (entry_tick (Err e) ∷ h) t
 
   -- a call was entered, after what chip and chooser answered during it; the history is one that calls can make, and
   -- it keeps the promise
-  pub record Entered (e : Entry) (h : History) (t : Standing H) : Type 0 where
+  pub record Entered (e : Entry) (h : History) (t : Standing means H) : Type 0 where
     pub past : History
     pub grows : Grows h past
     pub run : Run (e ∷ past) t

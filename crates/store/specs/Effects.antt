@@ -114,66 +114,66 @@ pub record FreshTables (m : Meaning) (t : Tables) : Type 0 where
   pub blocks : t.geometry.blocks ≡ m.blocks
   pub per_block : t.geometry.pages_per_block ≡ m.per_block
 
-module _ {H : Type 0} where
+module _ {C H : Type 0} {means : C → Meaning} where
   -- the store as a tick and a history see it
-  abbrev pub desk_of : History → Standing H → Desk
+  abbrev pub desk_of : History → Standing means H → Desk
   desk_of h s = record { past = h; maps = maps_of s.tables; pages = s.chip.pages; start = s.tables.start }
 
-  pub record SameButBooks (s t : Standing H) : Type 0 where
+  pub record SameButBooks (s t : Standing means H) : Type 0 where
     pub chip : t.chip ≡ s.chip
     pub chooser : t.chooser ≡ s.chooser
     pub is_open : t.is_open ≡ s.is_open
     pub tables : t.tables ≡ s.tables
 
   -- nothing has changed
-  pub record Same (s t : Standing H) : Type 0 where
+  pub record Same (s t : Standing means H) : Type 0 where
     pub rest : SameButBooks s t
     pub ledger : t.ledger ≡ s.ledger
 
   -- ---- open
 
-  pub record Opened (s : Standing H) (numbers alpha pool : ℕ) (t : Standing H) : Type 0 where
+  pub record Opened (s : Standing means H) (numbers alpha pool : ℕ) (t : Standing means H) : Type 0 where
     pub chip : t.chip ≡ blank s.chip
     pub chooser : t.chooser ≡ s.chooser
     pub is_open : t.is_open ≡ true
     pub books : books_of t.ledger ≡ opened_books (frame_for s.chip numbers alpha pool)
     pub tables : FreshTables s.chip t.tables
 
-  abbrev pub Opens : Standing H → ℕ → ℕ → ℕ → Result (Unit {0}) Refusal → Standing H → Type 0
+  abbrev pub Opens : Standing means H → ℕ → ℕ → ℕ → Result (Unit {0}) Refusal → Standing means H → Type 0
   Opens s numbers alpha pool (Ok u) t = (asks_open s.is_open s.chip numbers alpha pool ≡ None) × Opened s numbers alpha pool t × Sound t
   Opens s numbers alpha pool (Err e) t = (asks_open s.is_open s.chip numbers alpha pool ≡ Some e) × Same s t
 
   -- ---- seats
 
-  abbrev pub ledger_asks : Standing H → Option Refusal → Option Refusal
+  abbrev pub ledger_asks : Standing means H → Option Refusal → Option Refusal
   ledger_asks s question = if_open s.is_open question
 
   -- a call on the ledger alone: what it makes of the books where nothing is refused
-  pub record Booked (s : Standing H) (question : Option Refusal) (after : Books) (t : Standing H) : Type 0 where
+  pub record Booked (s : Standing means H) (question : Option Refusal) (after : Books) (t : Standing means H) : Type 0 where
     pub rest : SameButBooks s t
     pub books : books_of t.ledger ≡ unless (ledger_asks s question) after (books_of s.ledger)
     pub sound : Sound s → Sound t
 
-  abbrev pub Admits : Standing H → ℕ → ℕ → ℕ → Result Plan Refusal → Standing H → Type 0
+  abbrev pub Admits : Standing means H → ℕ → ℕ → ℕ → Result Plan Refusal → Standing means H → Type 0
   Admits s i p w r t =
       let b = books_of s.ledger in
       let plan = plan_of b.frame.alpha p w in
       (r ≡ answer (ledger_asks s (asks_admit b i p w)) plan) × Booked s (asks_admit b i p w) (admitted b i plan) t
 
-  abbrev pub Notices : Standing H → ℕ → Result (Unit {0}) Refusal → Standing H → Type 0
+  abbrev pub Notices : Standing means H → ℕ → Result (Unit {0}) Refusal → Standing means H → Type 0
   Notices s i r t = let b = books_of s.ledger in (r ≡ answer (ledger_asks s (asks_notice b i)) tt) × Booked s (asks_notice b i) (noticed b i) t
 
   -- a permit carries its seat's number
-  abbrev pub Takes : Standing H → ℕ → Result Permit Refusal → Standing H → Type 0
+  abbrev pub Takes : Standing means H → ℕ → Result Permit Refusal → Standing means H → Type 0
   Takes s i r t = let b = books_of s.ledger in (r ≡ answer (ledger_asks s (asks_take b i)) (record { seat = i })) × Booked s (asks_take b i) (taken b i) t
 
-  abbrev pub Returns : Standing H → ℕ → Result (Unit {0}) Refusal → Standing H → Type 0
+  abbrev pub Returns : Standing means H → ℕ → Result (Unit {0}) Refusal → Standing means H → Type 0
   Returns s i r t = let b = books_of s.ledger in (r ≡ answer (ledger_asks s (asks_return b i)) tt) × Booked s (asks_return b i) (returned b i) t
 
   -- ---- save
 
   -- the page is written by so many tries, the spare account pays for all but the last, and the seat pays for that one
-  pub record Stored (s : Standing H) (i n : ℕ) (d : List ℕ) (tries : ℕ) (h h' : History) (t : Standing H) : Type 0 where
+  pub record Stored (s : Standing means H) (i n : ℕ) (d : List ℕ) (tries : ℕ) (h h' : History) (t : Standing means H) : Type 0 where
     pub chooser : t.chooser ≡ s.chooser
     pub is_open : t.is_open ≡ s.is_open
     pub books : books_of t.ledger ≡ spent (paid_for (tries - 1) (books_of s.ledger)) i
@@ -184,7 +184,7 @@ module _ {H : Type 0} where
     pub sound : Sound t
 
   -- for every history before there is one after, which has the chip's answers
-  abbrev pub Saves : Standing H → ℕ → ℕ → List ℕ → Result ℕ Refusal → Standing H → Type 0
+  abbrev pub Saves : Standing means H → ℕ → ℕ → List ℕ → Result ℕ Refusal → Standing means H → Type 0
   Saves s i n d (Ok tries) t =
       (asks_save s.is_open (books_of s.ledger) i n (length d) ≡ None) × ((h : History) → ((h' : History) × Stored s i n d tries h h' t))
   Saves s i n d (Err e) t =
@@ -195,14 +195,14 @@ module _ {H : Type 0} where
 
   -- ---- read
 
-  abbrev pub Reads : Standing H → ℕ → List ℕ → Result ℕ Refusal → Standing H → List ℕ → Type 0
+  abbrev pub Reads : Standing means H → ℕ → List ℕ → Result ℕ Refusal → Standing means H → List ℕ → Type 0
   Reads s n before r t after =
       let stored = stored_at s.chip (maps_of s.tables n) in
       (r ≡ read_told s.is_open (books_of s.ledger) n stored (length before)) × (after ≡ read_into r stored before) × Same s t
 
   -- ---- tick
 
-  pub record Passed (s : Standing H) (k : Ticked) (h h' : History) (t : Standing H) : Type 0 where
+  pub record Passed (s : Standing means H) (k : Ticked) (h h' : History) (t : Standing means H) : Type 0 where
     pub open_before : s.is_open ≡ true
     pub is_open : t.is_open ≡ true
     pub failed : t.chip.allowance + k.tries ≡ s.chip.allowance + k.copies
@@ -210,6 +210,6 @@ module _ {H : Type 0} where
     pub walk : Walk (books_of s.ledger) (desk_of h s) 8 false k.runs k.recycles k.copies k.tries (books_of t.ledger) (desk_of h' t)
     pub sound : Sound t
 
-  abbrev pub Ticks : Standing H → Result Ticked Refusal → Standing H → Type 0
+  abbrev pub Ticks : Standing means H → Result Ticked Refusal → Standing means H → Type 0
   Ticks s (Ok k) t = (h : History) → ((h' : History) × Passed s k h h' t)
   Ticks s (Err e) t = (s.is_open ≡ false) × (e ≡ NotOpen) × Same s t

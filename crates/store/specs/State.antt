@@ -12,7 +12,7 @@
 use Rattle.std.specs.Prelude.{◌≡◌, ℕ, ◌-◌, ◌<◌, ◌≤◌, Bool, List, length, replicate, Some, None, Option, MatchBool}
 use Rattle.std.specs.Option.{is_some}
 use Rattle.std.specs.Coded.{Unit-prop}
-use Rattle.std.proofs.Common.{rules, arith, sym, ◌∙◌}
+use Rattle.std.proofs.Common.{rules, arith, sym, ◌∙◌, refl}
 use Rattle.std.proofs.Props.{props}
 use mathlib.Core.HLevel.{is_prop→PathP}
 use Rattle.chip.specs.Meaning.{Page, written, Meaning}
@@ -57,8 +57,11 @@ pub record SoundAt (m : Meaning) (b : Books) (t : Tables) : Type 0 where
   -- every token has a free page
   pub room : tokens b ≤ all_free m
 
-pub record Standing (H : Type 0) : Type 0 where
+pub record Standing {C : Type 0} (means : C → Meaning) (H : Type 0) : Type 0 where
   pub chip : Meaning
+  -- of this chip
+  pub of : C
+  pub is : means of ≡ chip
   pub chooser : H
   pub is_open : Bool
   pub ledger : Ledger
@@ -85,18 +88,18 @@ abbrev pub tables_in : Option Open → Tables
 tables_in None = no_tables
 tables_in (Some o) = o.tables
 
-abbrev pub standing : {H : Type 0} → Meaning → H → Option Open → Standing H
-standing m c o = record { chip = m; chooser = c; is_open = is_some o; ledger = ledger_in o; tables = tables_in o }
+abbrev pub standing : {C H : Type 0} (means : C → Meaning) → C → H → Option Open → Standing means H
+standing means k c o = record { chip = means k; of = k; is = refl; chooser = c; is_open = is_some o; ledger = ledger_in o; tables = tables_in o }
 
-module _ {H : Type 0} where
-  pub record OpenSound (s : Standing H) : Type 0 where
+module _ {C H : Type 0} {means : C → Meaning} where
+  pub record OpenSound (s : Standing means H) : Type 0 where
     pub at : SoundAt s.chip (books_of s.ledger) s.tables
     pub settled : Settled (books_of s.ledger)
 
-  abbrev pub Sound : Standing H → Type 0
+  abbrev pub Sound : Standing means H → Type 0
   Sound s = MatchBool s.is_open (OpenSound s) (Unit {0})
 
-  abbrev pub view_of : Standing H → View
+  abbrev pub view_of : Standing means H → View
   view_of s =
       record {
         maps = maps_of s.tables;
@@ -116,6 +119,6 @@ written_prop p l most x y =
       is_prop→PathP (λ j. length (bytes j) ≤ most) (λ j. Prim.hlevel props) x.2 y.2 i,
     )
 
-pub sound_prop : {H : Type 0} (m : Meaning) (c : H) (o : Option Open) → IsProp (Sound (standing m c o))
-sound_prop m c None = Unit-prop
-sound_prop m c (Some o) = Prim.hlevel (props, written_prop)
+pub sound_prop : {C H : Type 0} (means : C → Meaning) (k : C) (c : H) (o : Option Open) → IsProp (Sound (standing means k c o))
+sound_prop means k c None = Unit-prop
+sound_prop means k c (Some o) = Prim.hlevel (props, written_prop)

@@ -33,57 +33,57 @@ one_run k = record { runs = k.runs + 1; recycles = k.recycles; copies = k.copies
 abbrev pub one_recycle : Ticked → Emptied → Ticked
 one_recycle k d = record { runs = k.runs + 1; recycles = k.recycles + 1; copies = k.copies + d.copies; tries = k.tries + d.tries }
 
-module _ {H : Type 0} where
-  abbrev pub Goes_on : Bool → Standing H → ℕ → Ticked → Standing H → ℕ → Ticked → Type 0
+module _ {C H : Type 0} {means : C → Meaning} where
+  abbrev pub Goes_on : Bool → Standing means H → ℕ → Ticked → Standing means H → ℕ → Ticked → Type 0
   Goes_on inside s i k t j l =
       (b : Books) (x : Desk) (h : History) → Walk b x i inside k.runs k.recycles k.copies k.tries (books_of s.ledger) (desk_of h s)
       → ((h' : History) × Walk b x j inside l.runs l.recycles l.copies l.tries (books_of t.ledger) (desk_of h' t))
 
   -- what every part of a tick keeps
-  pub record Between (n : ℕ) (k : Ticked) (s : Standing H) (l : Ticked) (t : Standing H) : Type 0 where
+  pub record Between (n : ℕ) (k : Ticked) (s : Standing means H) (l : Ticked) (t : Standing means H) : Type 0 where
     pub sound : SoundAt t.chip (books_of t.ledger) t.tables
     pub few : Few n l t.chip
     pub failed : t.chip.allowance + l.tries + k.copies ≡ s.chip.allowance + l.copies + k.tries
     pub sizes : SameSize s.chip t.chip
     pub is_open : t.is_open ≡ s.is_open
 
-  pub record CanRun (n i : ℕ) (k : Ticked) (s : Standing H) : Type 0 where
+  pub record CanRun (n i : ℕ) (k : Ticked) (s : Standing means H) : Type 0 where
     pub sound : SoundAt s.chip (books_of s.ledger) s.tables
     pub few : Few n k s.chip
     pub little : n < 8192
     pub owing : 0 < owes (books_of s.ledger) i
     pub but : SettledBut i (books_of s.ledger)
 
-  pub record Ran (n i : ℕ) (k : Ticked) (s : Standing H) (l : Ticked) (t : Standing H) : Type 0 where
+  pub record Ran (n i : ℕ) (k : Ticked) (s : Standing means H) (l : Ticked) (t : Standing means H) : Type 0 where
     pub between : Between (n + 1) k s l t
     pub goes : Goes_on true s i k t i l
     pub owing : owes (books_of t.ledger) i + 1 ≡ owes (books_of s.ledger) i
     pub but : SettledBut i (books_of t.ledger)
 
-  abbrev pub Runs : ℕ → ℕ → Ticked → Standing H → Result Ticked Refusal → Standing H → Type 0
+  abbrev pub Runs : ℕ → ℕ → Ticked → Standing means H → Result Ticked Refusal → Standing means H → Type 0
   Runs n i k s (Err e) t = ⊥
   Runs n i k s (Ok l) t = Ran n i k s l t
 
-  pub record CanServe (n i : ℕ) (k : Ticked) (s : Standing H) : Type 0 where
+  pub record CanServe (n i : ℕ) (k : Ticked) (s : Standing means H) : Type 0 where
     pub sound : SoundAt s.chip (books_of s.ledger) s.tables
     pub few : Few n k s.chip
     pub little : n ≤ 7168
     pub seat : i < 8
     pub settled : Settled (books_of s.ledger)
 
-  pub record Served (n i : ℕ) (k : Ticked) (s : Standing H) (l : Ticked) (t : Standing H) : Type 0 where
+  pub record Served (n i : ℕ) (k : Ticked) (s : Standing means H) (l : Ticked) (t : Standing means H) : Type 0 where
     pub between : Between (n + 1024) k s l t
     pub goes : Goes_on false s i k t (i + 1) l
     pub settled : Settled (books_of t.ledger)
 
-  abbrev pub Serves : ℕ → ℕ → Ticked → Standing H → Result Ticked Refusal → Standing H → Type 0
+  abbrev pub Serves : ℕ → ℕ → Ticked → Standing means H → Result Ticked Refusal → Standing means H → Type 0
   Serves n i k s (Err e) t = ⊥
   Serves n i k s (Ok l) t = Served n i k s l t
 
   -- ---- the runs of one seat
 
   -- a seat was entered, and so many runs are due
-  pub record Begun (n i : ℕ) (k : Ticked) (s : Standing H) (due : ℕ) : Type 0 where
+  pub record Begun (n i : ℕ) (k : Ticked) (s : Standing means H) (due : ℕ) : Type 0 where
     pub sound : SoundAt s.chip (books_of s.ledger) s.tables
     pub few : Few n k s.chip
     pub little : n ≤ 7168
@@ -92,7 +92,7 @@ module _ {H : Type 0} where
     pub but : SettledBut i (books_of s.ledger)
 
   -- so many of them were made
-  pub record Midway (n i : ℕ) (k : Ticked) (s : Standing H) (done : ℕ) (l : Ticked) (t : Standing H) : Type 0 where
+  pub record Midway (n i : ℕ) (k : Ticked) (s : Standing means H) (done : ℕ) (l : Ticked) (t : Standing means H) : Type 0 where
     pub between : Between (n + done) k s l t
     pub goes : Goes_on true s i k t i l
     pub owing : owes (books_of t.ledger) i + done ≡ owes (books_of s.ledger) i
@@ -100,7 +100,7 @@ module _ {H : Type 0} where
 
   -- ---- the seats of a tick
 
-  pub record Walked (k : Ticked) (s : Standing H) (done : ℕ) (l : Ticked) (t : Standing H) : Type 0 where
+  pub record Walked (k : Ticked) (s : Standing means H) (done : ℕ) (l : Ticked) (t : Standing means H) : Type 0 where
     pub between : Between (1024 * done) k s l t
     pub goes : Goes_on false s 0 k t done l
     pub settled : Settled (books_of t.ledger)

@@ -20,14 +20,10 @@ impl<C: Chip, H: Chooser> Store<C, H> {
         if u32::from(number) >= open.ledger.frame().numbers {
             return Err(Refusal::NoSuchNumber);
         }
-        let page = open
-            .tables
-            .page_of(number)
-            .ok_or(Refusal::NothingStored)?;
-        let (_, length) = self
-            .chip
-            .fetch(page, buffer)
-            .map_err(|_| Refusal::BufferTooShort)?;
+        let page = open.tables.page_of(number).ok_or(Refusal::NothingStored)?;
+        let Ok((_, length)) = self.chip.fetch(page, buffer) else {
+            return Err(Refusal::BufferTooShort);
+        };
         Ok(length)
     }
 }

@@ -11,7 +11,7 @@ pub struct Store<C: Chip, H: Chooser> {
     pub(crate) chip: C,
     pub(crate) chooser: H,
     pub(crate) opened: Option<Open>,
-    ghost sound: { Sound (standing (C.Chip.means chip) chooser opened) } by { sound_prop (C.Chip.means chip) chooser opened },
+    ghost sound: { Sound (standing C.Chip.means chip chooser opened) } by { sound_prop C.Chip.means chip chooser opened },
 }
 
 // The right to one page write of a seat. It is neither `Drop` nor `Copy`: whoever holds one has to spend it,

@@ -50,7 +50,7 @@ impl Open {
         seat: u8,
         so_far: Ticked,
     ) -> Result<Ticked, Refusal>
-        ensures { let before = standing (C.Chip.means chip.old) chooser.old (Some self.old) in let after = standing (C.Chip.means chip.new) chooser.new (Some self.new) in (n : ℕ) → CanRun n seat so_far before → Runs n seat so_far before result after }
+        ensures { let before = standing C.Chip.means chip.old chooser.old (Some self.old) in let after = standing C.Chip.means chip.new chooser.new (Some self.new) in (n : ℕ) → CanRun n seat so_far before → Runs n seat so_far before result after }
     {
         let wanted = u64::from(self.ledger.tokens()) + u64::from(self.ledger.alpha());
         if u64::from(self.tables.free) >= wanted {
@@ -71,7 +71,7 @@ impl Open {
         seat: u8,
         so_far: Ticked,
     ) -> Result<Ticked, Refusal>
-        ensures { let before = standing (C.Chip.means chip.old) chooser.old (Some self.old) in let after = standing (C.Chip.means chip.new) chooser.new (Some self.new) in (n : ℕ) → CanServe n seat so_far before → Serves n seat so_far before result after }
+        ensures { let before = standing C.Chip.means chip.old chooser.old (Some self.old) in let after = standing C.Chip.means chip.new chooser.new (Some self.new) in (n : ℕ) → CanServe n seat so_far before → Serves n seat so_far before result after }
     {
         if !self.ledger.enter(seat) {
             return Ok(so_far);
@@ -91,7 +91,7 @@ impl Open {
         chip: &mut C,
         chooser: &mut H,
     ) -> Result<Ticked, Refusal>
-        ensures { let before = standing (C.Chip.means chip.old) chooser.old (Some self.old) in let after = standing (C.Chip.means chip.new) chooser.new (Some self.new) in OpenSound before → Ticks before result after }
+        ensures { let before = standing C.Chip.means chip.old chooser.old (Some self.old) in let after = standing C.Chip.means chip.new chooser.new (Some self.new) in OpenSound before → Ticks before result after }
     {
         let mut count = Ticked::default();
         for seat in 0..SEATS as u8 {

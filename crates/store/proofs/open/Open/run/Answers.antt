@@ -9,31 +9,31 @@ use Rattle.store.proofs.open.Open.run.Goals as goal
 
 pub returns-then-from-wanted : goal.returns-then-from-wanted
 returns-then-from-wanted g c = λ n can.
-    let s = standing (g.C.Chip.means c.args.chip.now) c.args.chooser.now (Some c.args.self.now) in
+    let s = standing g.C.Chip.means c.args.chip.now c.args.chooser.now (Some c.args.self.now) in
     let k = c.args.so_far in
     let small = small_counts n k s.chip can.few can.little in
     let is : c.with_run.result ≡ one_run k = c.with_run.ensures small.0 in
     let wide : tokens (books_of s.ledger) + (books_of s.ledger).frame.alpha ≤ all_free s.chip = omega (arith, can.sound.tied.free_pages) in
-    subst (λ l. Ran n c.args.seat k s l (record { chip = s.chip; chooser = s.chooser; is_open = s.is_open; ledger = c.ran.new.self; tables = s.tables })) (sym is)
+    subst (λ l. Ran n c.args.seat k s l (standing g.C.Chip.means c.args.chip.now c.args.chooser.now (Some (record { ledger = c.ran.new.self; tables = c.args.self.now.tables })))) (sym is)
     (ran_free n c.args.seat k s can c.ran.new.self c.ran.ensures.books wide)
 
 pub returns-in_err-done : goal.returns-in_err-done
 returns-in_err-done g c = λ n can.
-    let s = standing (g.C.Chip.means c.args.chip.now) c.args.chooser.now (Some c.args.self.now) in
+    let s = standing g.C.Chip.means c.args.chip.now c.args.chooser.now (Some c.args.self.now) in
     let short : all_free s.chip < tokens (books_of s.ledger) + (books_of s.ledger).frame.alpha = omega (arith, can.sound.tied.free_pages) in
     absurd (c.in_err-done.ensures (books_of s.ledger).frame.alpha (ready n c.args.seat c.args.so_far s can short))
 
 pub returns : goal.returns
 returns g c = λ n can.
-    let s = standing (g.C.Chip.means c.args.chip.now) c.args.chooser.now (Some c.args.self.now) in
-    let m = g.C.Chip.means c.recycle.new.chip in
+    let s = standing g.C.Chip.means c.args.chip.now c.args.chooser.now (Some c.args.self.now) in
+    let m = c.recycle.new.chip in
     let k = c.args.so_far in
     let d = c.in_ok-done.done in
     let short : all_free s.chip < tokens (books_of s.ledger) + (books_of s.ledger).frame.alpha = omega (arith, can.sound.tied.free_pages) in
     let r = c.in_ok-done.ensures (books_of s.ledger).frame.alpha (ready n c.args.seat k s can short) in
-    let paid : books_of c.pay_for.new.ledger ≡ paid_for (d.tries - d.copies) (books_of s.ledger) = c.pay_for.ensures ∙ ap (λ x. paid_for x (books_of s.ledger)) c.saturating_sub.ensures in
+    let paid : books_of c.pay_for.new.self ≡ paid_for (d.tries - d.copies) (books_of s.ledger) = c.pay_for.ensures ∙ ap (λ x. paid_for x (books_of s.ledger)) c.saturating_sub.ensures in
     let small = small_counts n k s.chip can.few can.little in
-    let more = small_recycle n c.args.seat k s can short m c.recycle.new.chooser d c.recycle.new.self r c.pay_for.new.ledger c.ran-2.new.self paid c.ran-2.ensures.books in
+    let more = small_recycle n c.args.seat k s can short m c.recycle.new.chooser d c.recycle.new.self r c.pay_for.new.self c.ran-2.new.self paid c.ran-2.ensures.books in
     let is : c.with_recycle.result ≡ one_recycle k d = c.with_recycle.ensures small.0 small.1 more.0 more.1 in
-    subst (λ l. Ran n c.args.seat k s l (record { chip = m; chooser = c.recycle.new.chooser; is_open = s.is_open; ledger = c.ran-2.new.self; tables = c.recycle.new.self })) (sym is)
-    (ran_recycled n c.args.seat k s can short m c.recycle.new.chooser d c.recycle.new.self r c.pay_for.new.ledger c.ran-2.new.self paid c.ran-2.ensures.books)
+    subst (λ l. Ran n c.args.seat k s l (standing g.C.Chip.means m c.recycle.new.chooser (Some (record { ledger = c.ran-2.new.self; tables = c.recycle.new.self })))) (sym is)
+    (ran_recycled n c.args.seat k s can short m c.recycle.new.chooser d c.recycle.new.self r c.pay_for.new.self c.ran-2.new.self paid c.ran-2.ensures.books)

@@ -2,6 +2,7 @@ use Rattle.std.proofs.Common.{◌≡◌, Some, Ok, Err, ap, rules, arith}
 use Rattle.ledger.specs.declared.frame.Frame.{Frame}
 use Rattle.store.proofs.Reading.{short}
 use Rattle.ledger.specs.declared.refusal.Refusal.TheVariants.{NoSuchNumber, NothingStored, BufferTooShort}
+use Rattle.pages.specs.Tied.{maps_of}
 use Rattle.store.specs.Seen.{seen}
 use Rattle.store.proofs.Entering.{entered_read}
 use Rattle.store.proofs.store.Store.read.Goals as goal
@@ -12,16 +13,17 @@ returns-in_err-open-clause-promise g c = entered_read (seen c.args.self.now) _ c
 pub returns-then-from-frame-clause-promise : goal.returns-then-from-frame-clause-promise
 returns-then-from-frame-clause-promise g c = entered_read (seen c.args.self.now) _ c.args.number c.args.buffer.now c.args.buffer.now (Err NoSuchNumber) (λ _. search rules)
 
-pub returns-in_default-clause-promise : goal.returns-in_default-clause-promise
-returns-in_default-clause-promise g c = entered_read (seen c.args.self.now) _ c.args.number c.args.buffer.now c.args.buffer.now (Err NothingStored) (λ _. search rules)
+pub returns-in_err-page-clause-promise : goal.returns-in_err-page-clause-promise
+returns-in_err-page-clause-promise g c = entered_read (seen c.args.self.now) _ c.args.number c.args.buffer.now c.args.buffer.now _ (λ _. search rules)
 
-pub returns-in_default-fetch-clause-promise : goal.returns-in_default-fetch-clause-promise
-returns-in_default-fetch-clause-promise g c =
+pub returns-in_default-clause-promise : goal.returns-in_default-clause-promise
+returns-in_default-clause-promise g c =
     let is : c.args.self.now.opened ≡ Some c.in_ok-open.open.now = search rules in
+    let named : Some c.in_ok-page.page ≡ maps_of c.in_ok-open.open.now.tables c.args.number = search rules in
     let numbers = ap (λ (f : Frame). f.numbers) c.frame.ensures in
     let e =
-    short (g.C.Chip.means c.args.self.now.chip) (g.C.Chip.means c.fetch.new.self) c.args.self.now.chooser is c.args.self.now.sound c.args.number c.args.buffer.now c.fetch.new.buffer
-    c.in_default-fetch.ensures.same (omega (arith, numbers, c.from.ensures, c.if-from-frame.false)) c.in-Some.page c.in-Some.ensures c.in_default-fetch.field-0 c.in_default-fetch.ensures.value c.in_default-fetch.ensures.buffer in
+    short g.C.Chip.means c.args.self.now.chip c.fetch.new.self c.args.self.now.chooser is c.args.self.now.sound c.args.number c.args.buffer.now c.fetch.new.buffer
+    c.in_default.ensures.same (omega (arith, numbers, c.from.ensures, c.if-from-frame.false)) c.in_ok-page.page (λ _. named) c.in_default.field-0 c.in_default.ensures.value c.in_default.ensures.buffer in
     entered_read (seen c.args.self.now) _ c.args.number c.args.buffer.now c.fetch.new.buffer (Err BufferTooShort) (λ _. e)
 
 pub returns-clause-promise : goal.returns-clause-promise

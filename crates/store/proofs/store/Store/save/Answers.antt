@@ -17,7 +17,7 @@ pub invariant_of-self-in-Err : goal.invariant_of-self-in-Err
 invariant_of-self-in-Err g c =
     let is : c.args.self.now.opened ≡ Some c.in_ok-open.open.now = search rules in
     let b = books_of c.in_ok-open.open.now.ledger in
-    record { sound = ledger_sound is c.args.self.now.sound c.hand_back.new.self (asks_return b c.args.permit.seat) (returned b c.args.permit.seat) c.hand_back.ensures.books refl refl c.hand_back.ensures.law }
+    record { sound = ledger_sound g.C.Chip.means c.args.self.now.chip c.args.self.now.chooser is c.args.self.now.sound c.hand_back.new.self (asks_return b c.args.permit.seat) (returned b c.args.permit.seat) c.hand_back.ensures.books refl refl c.hand_back.ensures.law }
 
 pub returns-in-Err-clause-promise : goal.returns-in-Err-clause-promise
 returns-in-Err-clause-promise g c = entered_save (seen c.args.self.now) _ c.args.permit.seat c.args.number c.args.bytes.now (Err c.in-Err.refusal) (λ _. search rules)
@@ -25,20 +25,20 @@ returns-in-Err-clause-promise g c = entered_save (seen c.args.self.now) _ c.args
 pub invariant_of-self-in-Break-branch-3 : goal.invariant_of-self-in-Break-branch-3
 invariant_of-self-in-Break-branch-3 g c =
     let is : c.args.self.now.opened ≡ Some c.in_ok-open.open.now = search rules in
-    absurd (always_written (g.C.Chip.means c.args.self.now.chip) c.args.self.now.chooser is c.args.self.now.sound c.args.permit.seat c.args.number c.args.bytes.now c.in_ok-may_spend.ensures c.in_default.ensures (g.C.Chip.means c.write.new.chip) c.write.new.self c.in_err-tries.ensures)
+    absurd (always_written g.C.Chip.means c.args.self.now.chip c.args.self.now.chooser is c.args.self.now.sound c.args.permit.seat c.args.number c.args.bytes.now c.in_ok-may_spend.ensures c.in_default.ensures c.write.new.chip c.write.new.self c.in_err-tries.ensures)
 
 pub returns-in_err-tries : goal.returns-in_err-tries
 returns-in_err-tries g c =
     let is : c.args.self.now.opened ≡ Some c.in_ok-open.open.now = search rules in
-    absurd (always_written (g.C.Chip.means c.args.self.now.chip) c.args.self.now.chooser is c.args.self.now.sound c.args.permit.seat c.args.number c.args.bytes.now c.in_ok-may_spend.ensures c.in_default.ensures (g.C.Chip.means c.write.new.chip) c.write.new.self c.in_err-tries.ensures)
+    absurd (always_written g.C.Chip.means c.args.self.now.chip c.args.self.now.chooser is c.args.self.now.sound c.args.permit.seat c.args.number c.args.bytes.now c.in_ok-may_spend.ensures c.in_default.ensures c.write.new.chip c.write.new.self c.in_err-tries.ensures)
 
 pub invariant_of-self-2 : goal.invariant_of-self-2
 invariant_of-self-2 g c =
     let is : c.args.self.now.opened ≡ Some c.in_ok-open.open.now = search rules in
-    record { sound = saved_sound (g.C.Chip.means c.args.self.now.chip) c.args.self.now.chooser is c.args.self.now.sound c.args.permit.seat c.args.number c.args.bytes.now c.in_ok-may_spend.ensures c.in_default.ensures (g.C.Chip.means c.write.new.chip) c.write.new.self c.in_ok-tries.tries c.pay_for.new.ledger c.spend.new.self c.saturating_sub.result c.saturating_sub.ensures c.in_ok-tries.ensures c.pay_for.ensures c.spend.ensures.books }
+    record { sound = saved_sound g.C.Chip.means c.args.self.now.chip c.args.self.now.chooser is c.args.self.now.sound c.args.permit.seat c.args.number c.args.bytes.now c.in_ok-may_spend.ensures c.in_default.ensures c.write.new.chip c.write.new.self c.in_ok-tries.tries c.pay_for.new.self c.spend.new.self c.saturating_sub.result c.saturating_sub.ensures c.in_ok-tries.ensures c.pay_for.ensures c.spend.ensures.books }
 
 pub returns : goal.returns
 returns g c =
     let is : c.args.self.now.opened ≡ Some c.in_ok-open.open.now = search rules in
-    let e = saved (g.C.Chip.means c.args.self.now.chip) c.args.self.now.chooser is c.args.self.now.sound c.args.permit.seat c.args.number c.args.bytes.now c.in_ok-may_spend.ensures c.in_default.ensures (g.C.Chip.means c.write.new.chip) c.write.new.self c.in_ok-tries.tries c.pay_for.new.ledger c.spend.new.self c.saturating_sub.result c.saturating_sub.ensures c.in_ok-tries.ensures c.pay_for.ensures c.spend.ensures.books in
+    let e = saved g.C.Chip.means c.args.self.now.chip c.args.self.now.chooser is c.args.self.now.sound c.args.permit.seat c.args.number c.args.bytes.now c.in_ok-may_spend.ensures c.in_default.ensures c.write.new.chip c.write.new.self c.in_ok-tries.tries c.pay_for.new.self c.spend.new.self c.saturating_sub.result c.saturating_sub.ensures c.in_ok-tries.ensures c.pay_for.ensures c.spend.ensures.books in
     record { effect = e; promise = entered_save (seen c.args.self.now) _ c.args.permit.seat c.args.number c.args.bytes.now (Ok c.in_ok-tries.tries) (λ _. e) }

@@ -13,13 +13,13 @@ returns-in_err-open-clause-promise g c = entered_tick (seen c.args.self.now) _ _
 pub invariant_of-self-2 : goal.invariant_of-self-2
 invariant_of-self-2 g c =
     let is : c.args.self.now.opened ≡ Some c.in_ok-open.open.now = search rules in
-    let s = standing (g.C.Chip.means c.args.self.now.chip) c.args.self.now.chooser (Some c.in_ok-open.open.now) in
-    let t = standing (g.C.Chip.means c.pass.new.chip) c.pass.new.chooser (Some c.pass.new.self) in
-    record { sound = ticked_sound s t c.pass.result refl refl (c.pass.ensures (opened_sound is c.args.self.now.sound)) }
+    let s = standing g.C.Chip.means c.args.self.now.chip c.args.self.now.chooser (Some c.in_ok-open.open.now) in
+    let t = standing g.C.Chip.means c.pass.new.chip c.pass.new.chooser (Some c.pass.new.self) in
+    record { sound = ticked_sound s t c.pass.result refl refl (c.pass.ensures (opened_sound g.C.Chip.means c.args.self.now.chip c.args.self.now.chooser is c.args.self.now.sound)) }
 
 pub returns : goal.returns
 returns g c =
     let is : c.args.self.now.opened ≡ Some c.in_ok-open.open.now = search rules in
-    let t = standing (g.C.Chip.means c.pass.new.chip) c.pass.new.chooser (Some c.pass.new.self) in
-    let e = from_open is c.args.self.now.sound (λ x. Ticks x c.pass.result t) (c.pass.ensures (opened_sound is c.args.self.now.sound)) in
+    let t = standing g.C.Chip.means c.pass.new.chip c.pass.new.chooser (Some c.pass.new.self) in
+    let e = from_open g.C.Chip.means c.args.self.now.chip c.args.self.now.chooser is c.args.self.now.sound (λ x. Ticks x c.pass.result t) (c.pass.ensures (opened_sound g.C.Chip.means c.args.self.now.chip c.args.self.now.chooser is c.args.self.now.sound)) in
     record { effect = e; promise = entered_tick (seen c.args.self.now) t c.pass.result (λ _. e) }
