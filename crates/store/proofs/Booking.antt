@@ -1,7 +1,6 @@
 -- A call on the ledger alone leaves the store sound. Assumes nothing.
-use Rattle.std.proofs.Common.{◌≡◌, ◌<◌, ◌≤◌, true, Some, None, MatchBool, Option, sym, refl, ap, ◌∙◌, subst, arith}
+use Rattle.std.proofs.Common.{◌≡◌, ◌≤◌, true, Some, Option, rules}
 use Rattle.chip.specs.Meaning.{Meaning}
-use Rattle.ledger.specs.declared.frame.Frame.{Frame}
 use Rattle.ledger.specs.declared.refusal.Refusal.{Refusal}
 use Rattle.ledger.specs.declared.ledger.Ledger.{Ledger}
 use Rattle.ledger.specs.Books.{Books, tokens, unless}
@@ -10,69 +9,27 @@ use Rattle.ledger.specs.Of.{books_of}
 use Rattle.pages.specs.declared.tables.Tables.{Tables}
 use Rattle.store.specs.declared.open.Open.{Open}
 use Rattle.store.specs.State.{SoundAt, Standing, standing, OpenSound, Sound}
-use Rattle.store.specs.Effects.{if_open, SameButBooks, Booked}
 
 -- other books with the same frame, as much in the spare account and no more tokens
 pub sound_at : {m n : Meaning} {b c : Books} {t u : Tables} → n ≡ m → u ≡ t → c.frame ≡ b.frame → c.spare ≡ b.spare → tokens c ≤ tokens b → SoundAt m b t → SoundAt n c u
-sound_at {m} {n} {b} {c} {t} {u} chip tables frame spare fewer at =
-    subst (λ (x : Meaning). SoundAt x c u) (sym chip)
-    (subst (λ (x : Tables). SoundAt m c x) (sym tables)
-    (record {
-      tied = at.tied;
-      shape = at.shape;
-      blocks = ap (λ (f : Frame). f.blocks) frame ∙ at.blocks;
-      per_block = ap (λ (f : Frame). f.pages_per_block) frame ∙ at.per_block;
-      page_size = ap (λ (f : Frame). f.page_size) frame ∙ at.page_size;
-      numbers = subst (λ (f : Frame). f.numbers ≤ 1920) (sym frame) at.numbers;
-      labels = λ l q named. subst (λ (f : Frame). l < f.numbers) (sym frame) (at.labels l q named);
-      spare = subst (λ x. m.allowance ≤ x) (sym spare) at.spare;
-      room = omega (arith, fewer, at.room);
-    }))
+sound_at {m} {n} {b} {c} {t} {u} chip tables frame spare fewer at = search rules
 
 module _ {H : Type 0} (s : Standing H) where
   pub sound_open : s.is_open ≡ true → Sound s → OpenSound s
-  sound_open is sound = subst (λ x. MatchBool x (OpenSound s) (Unit {0})) is sound
+  sound_open is sound = search rules
 
   pub open_sound : s.is_open ≡ true → OpenSound s → Sound s
-  open_sound is sound = subst (λ x. MatchBool x (OpenSound s) (Unit {0})) (sym is) sound
-
-module _ {H : Type 0} {s t : Standing H} where
-  pub sound_on : s.is_open ≡ true → SameButBooks s t → (books_of t.ledger).frame ≡ (books_of s.ledger).frame → (books_of t.ledger).spare ≡ (books_of s.ledger).spare
-      → Keeps (books_of s.ledger) (books_of t.ledger) → Sound s → Sound t
-  sound_on is rest frame spare keeps sound =
-      let o = sound_open s is sound in
-      open_sound t (rest.is_open ∙ is) (record { at = sound_at rest.chip rest.tables frame spare (omega (arith, keeps.same_tokens)) o.at; settled = keeps.settled o.settled })
-
-  pub booked : (q : Option Refusal) (after : Books) → s.is_open ≡ true → SameButBooks s t → books_of t.ledger ≡ unless q after (books_of s.ledger)
-      → after.frame ≡ (books_of s.ledger).frame → after.spare ≡ (books_of s.ledger).spare → Keeps (books_of s.ledger) (books_of t.ledger) → Booked s q after t
-  booked q after is rest made frame spare keeps =
-      record {
-        rest = rest;
-        books = made ∙ ap (λ x. unless (if_open x q) after (books_of s.ledger)) (sym is);
-        sound = sound_on is rest (by_frame q made) (by_spare q made) keeps;
-      }
-    where
-      by_frame : (o : Option Refusal) → books_of t.ledger ≡ unless o after (books_of s.ledger) → (books_of t.ledger).frame ≡ (books_of s.ledger).frame
-      by_frame None e = ap (λ (x : Books). x.frame) e ∙ frame
-      by_frame (Some r) e = ap (λ (x : Books). x.frame) e
-
-      by_spare : (o : Option Refusal) → books_of t.ledger ≡ unless o after (books_of s.ledger) → (books_of t.ledger).spare ≡ (books_of s.ledger).spare
-      by_spare None e = ap (λ (x : Books). x.spare) e ∙ spare
-      by_spare (Some r) e = ap (λ (x : Books). x.spare) e
+  open_sound is sound = search rules
 
 -- what a store that is open keeps, where a call on the ledger alone kept the ledger's promises
 module _ {H : Type 0} {m : Meaning} {c : H} {was : Option Open} {o : Open} (is : was ≡ Some o) (sound : Sound (standing m c was)) where
   pub opened_sound : OpenSound (standing m c (Some o))
-  opened_sound = subst (λ (x : Option Open). Sound (standing m c x)) is sound
+  opened_sound = search rules
 
   -- what is true of the open store is true of the store
   pub from_open : (P : Standing H → Type 0) → P (standing m c (Some o)) → P (standing m c was)
-  from_open P p = subst (λ (x : Option Open). P (standing m c x)) (sym is) p
+  from_open P p = search rules
 
   pub ledger_sound : (l : Ledger) (q : Option Refusal) (after : Books) → books_of l ≡ unless q after (books_of o.ledger)
       → after.frame ≡ o.ledger.frame → after.spare ≡ o.ledger.spare → Keeps (books_of o.ledger) (books_of l) → OpenSound (standing m c (Some (record { ledger = l; tables = o.tables })))
-  ledger_sound l q after made frame spare keeps =
-      let s = standing m c (Some o) in
-      let t = standing m c (Some (record { ledger = l; tables = o.tables })) in
-      let rest : SameButBooks s t = record { chip = refl; chooser = refl; is_open = refl; tables = refl } in
-      (booked q after refl rest made frame spare keeps).sound opened_sound
+  ledger_sound l q after made frame spare keeps = search rules

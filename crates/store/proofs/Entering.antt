@@ -1,5 +1,6 @@
 -- What each call adds to a history that keeps the promise: its entry, after what chip and chooser answered during it.
-use Rattle.std.proofs.Common.{ℕ, zero, suc, Bool, false, List, ◌∷◌, length, Ok, Err, Option, Result, sym, refl, subst}
+use Rattle.std.proofs.lemmas.Grind.{common_steps}
+use Rattle.std.proofs.Common.{ℕ, zero, suc, Bool, false, List, ◌∷◌, length, Ok, Err, Option, Result, sym, refl, subst, arith}
 use Rattle.chip.specs.Meaning.{Page}
 use Rattle.plan.specs.declared.numbers.Plan.{Plan}
 use Rattle.ledger.specs.declared.frame.Frame.{Frame}
@@ -60,7 +61,7 @@ walk_grows (ends w q) = walk_grows w
 
 module _ {H : Type 0} (s t : Standing H) where
   entered : {h past : History} (e : Entry) → Grows h past → Run (e ∷ past) t → Entered e h t
-  entered {past = past} e grows run = record { past = past; grows = grows; run = run; promise = run_promised run }
+  entered {past = past} e grows run = grind (arith, common_steps, run_promised)
 
   pub entered_open : (numbers alpha pool : ℕ) (r : Result (Unit {0}) Refusal) → (Sound s → Opens s numbers alpha pool r t)
       → (h : History) → Run h s → Entered (entry_open numbers alpha pool r) h t

@@ -1,6 +1,5 @@
 -- A whole tick.
-use Rattle.std.proofs.Common.{◌≡◌, ℕ, true, false, [], Ok, Err, Result, sym, ◌∙◌, subst, arith}
-use Rattle.std.proofs.lemmas.Bool.{true≢false}
+use Rattle.std.proofs.Common.{◌≡◌, ℕ, true, false, [], Ok, Err, Result, ◌∙◌, subst, arith, rules}
 use Rattle.ledger.specs.declared.refusal.Refusal.{Refusal}
 use Rattle.ledger.specs.Of.{books_of}
 use Rattle.history.specs.History.{History}
@@ -30,4 +29,4 @@ module _ {H : Type 0} where
   -- an open store is sound after its tick, whatever the tick answers
   pub ticked_sound : (s t : Standing H) (r : Result Ticked Refusal) → s.is_open ≡ true → t.is_open ≡ true → Ticks s r t → OpenSound t
   ticked_sound s t (Ok k) is after did = sound_open t after (did []).1.sound
-  ticked_sound s t (Err e) is after did = absurd (true≢false (sym is ∙ did.0))
+  ticked_sound s t (Err e) is after did = search rules
