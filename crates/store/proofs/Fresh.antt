@@ -58,11 +58,11 @@ pub record Openable (is_open : Bool) (f : Frame) : Type 0 where
   pub yields_within : f.alpha ≤ f.pages_per_block
   pub rule : yield_rule f.blocks f.pages_per_block f.numbers (f.pool + f.allowance) f.alpha ≡ true
 
-pub openable : (is_open : Bool) (f : Frame) → asks_frame is_open f ≡ None → Openable is_open f
+openable : (is_open : Bool) (f : Frame) → asks_frame is_open f ≡ None → Openable is_open f
 openable is_open f none = search rules
 
 -- the sizes that the tables take
-pub geometry_sized : (is_open : Bool) (m : Meaning) (shape : Shape) (numbers alpha pool : ℕ) → shape ≡ shape_of m → Shaped m → Openable is_open (frame_for m numbers alpha pool)
+geometry_sized : (is_open : Bool) (m : Meaning) (shape : Shape) (numbers alpha pool : ℕ) → shape ≡ shape_of m → Shaped m → Openable is_open (frame_for m numbers alpha pool)
     → (1 ≤ shape.blocks) × (shape.blocks ≤ 64) × (1 ≤ shape.pages_per_block) × (shape.pages_per_block ≤ 32)
 geometry_sized is_open m shape numbers alpha pool is shaped o = search rules
 
@@ -123,7 +123,7 @@ module _ (m : Meaning) (t : Tables) (fresh : FreshTables m t) where
 -- ---- the whole
 
 module _ {H : Type 0} (s : Standing H) (numbers alpha pool : ℕ) (none : asks_open s.is_open s.chip numbers alpha pool ≡ None) where
-  pub opens_on : (t : Standing H) → t.chip ≡ blank s.chip → t.chooser ≡ s.chooser → t.is_open ≡ true
+  opens_on : (t : Standing H) → t.chip ≡ blank s.chip → t.chooser ≡ s.chooser → t.is_open ≡ true
       → books_of t.ledger ≡ opened_books (frame_for s.chip numbers alpha pool) → FreshTables s.chip t.tables → Opens s numbers alpha pool (Ok tt) t
   opens_on t chip chooser is books fresh =
       let m = s.chip in
@@ -138,7 +138,7 @@ module _ {H : Type 0} (s : Standing H) (numbers alpha pool : ℕ) (none : asks_o
       )
 
 module _ {H : Type 0} (s : Standing H) (numbers alpha pool : ℕ) (f : Frame) (is : f ≡ frame_for s.chip numbers alpha pool) where
-  pub asked_open : (x : Unit {0}) → ◌≡◌ {A = Result (Unit {0}) Refusal} (Ok x) (answer (asks_frame s.is_open f) tt) → asks_open s.is_open s.chip numbers alpha pool ≡ None
+  asked_open : (x : Unit {0}) → ◌≡◌ {A = Result (Unit {0}) Refusal} (Ok x) (answer (asks_frame s.is_open f) tt) → asks_open s.is_open s.chip numbers alpha pool ≡ None
   asked_open x told = search rules
 
   pub not_opened : (t : Standing H) (e : Refusal) → ◌≡◌ {A = Result (Unit {0}) Refusal} (Err e) (answer (asks_frame s.is_open f) tt) → t.chip ≡ s.chip → t.chooser ≡ s.chooser
@@ -146,11 +146,20 @@ module _ {H : Type 0} (s : Standing H) (numbers alpha pool : ℕ) (f : Frame) (i
   not_opened t e told chip chooser is_open ledger tables = search rules
 
   module _ (shaped : Shaped s.chip) (x : Unit {0}) (told : ◌≡◌ {A = Result (Unit {0}) Refusal} (Ok x) (answer (asks_frame s.is_open f) tt)) where
-    pub may : Openable s.is_open (frame_for s.chip numbers alpha pool)
+    may : Openable s.is_open (frame_for s.chip numbers alpha pool)
     may = search rules
 
     pub frame_refused : option_map books_of None ≡ cond (stands f) (Some (opened_books f)) None → ⊥
     frame_refused said = search rules
 
-    pub frame_opened : (l : Ledger) → option_map books_of (Some l) ≡ cond (stands f) (Some (opened_books f)) None → books_of l ≡ opened_books (frame_for s.chip numbers alpha pool)
+    frame_opened : (l : Ledger) → option_map books_of (Some l) ≡ cond (stands f) (Some (opened_books f)) None → books_of l ≡ opened_books (frame_for s.chip numbers alpha pool)
     frame_opened l said = search rules
+
+    -- a store with these parts was opened
+    pub opened_with : (t : Standing H) (l : Ledger) → option_map books_of (Some l) ≡ cond (stands f) (Some (opened_books f)) None
+        → t.chip ≡ blank s.chip → t.chooser ≡ s.chooser → t.is_open ≡ true → t.ledger ≡ l → FreshTables s.chip t.tables → Opens s numbers alpha pool (Ok tt) t
+    opened_with t l said chip chooser is_open ledger fresh =
+        opens_on s numbers alpha pool (asked_open x told) t chip chooser is_open (ap books_of ledger ∙ frame_opened l said) fresh
+
+    pub opened_sized : (shape : Shape) → shape ≡ shape_of s.chip → (1 ≤ shape.blocks) × (shape.blocks ≤ 64) × (1 ≤ shape.pages_per_block) × (shape.pages_per_block ≤ 32)
+    opened_sized shape so = geometry_sized s.is_open s.chip shape numbers alpha pool so shaped may

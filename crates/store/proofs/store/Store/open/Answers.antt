@@ -6,7 +6,7 @@ use Rattle.store.specs.State.{standing}
 use Rattle.store.specs.Effects.{asks_frame, blank, Opens}
 use Rattle.store.specs.Seen.{seen}
 use Rattle.store.proofs.Entering.{entered_open}
-use Rattle.store.proofs.Fresh.{geometry_sized, opens_on, not_opened, asked_open, may, frame_refused, frame_opened}
+use Rattle.store.proofs.Fresh.{not_opened, frame_refused, opened_with, opened_sized}
 use Rattle.store.proofs.store.Store.open.Goals as goal
 
 pub returns-in_err-may_open : goal.returns-in_err-may_open
@@ -30,7 +30,7 @@ pub invariant_of-geometry : goal.invariant_of-geometry
 invariant_of-geometry g c =
     let s = seen c.args.self.now in
     let told = c.in_ok-may_open.ensures ∙ ap (λ o. answer (asks_frame o c.framed-frame.result) tt) c.is_some.ensures in
-    record { sized = geometry_sized s.is_open s.chip c.shape-shape.result c.args.numbers c.args.alpha c.args.pool c.shape-shape.ensures.value (g.C.Chip.shaped c.args.self.now.chip) (may s c.args.numbers c.args.alpha c.args.pool c.framed-frame.result (c.framed-frame.ensures s.chip c.shape-shape.ensures.value) (g.C.Chip.shaped c.args.self.now.chip) c.in_ok-may_open.field-0 told) }
+    record { sized = opened_sized s c.args.numbers c.args.alpha c.args.pool c.framed-frame.result (c.framed-frame.ensures s.chip c.shape-shape.ensures.value) (g.C.Chip.shaped c.args.self.now.chip) c.in_ok-may_open.field-0 told c.shape-shape.result c.shape-shape.ensures.value }
 
 pub invariant_of-self-2 : goal.invariant_of-self-2
 invariant_of-self-2 g c =
@@ -40,9 +40,8 @@ invariant_of-self-2 g c =
     let same = c.shape-shape.ensures.same in
     let t = standing (g.C.Chip.means c.erase_all.new.chip) s.chooser (Some (record { ledger = c.in-Some.ledger; tables = c.fresh_tables.result })) in
     let e =
-    opens_on s c.args.numbers c.args.alpha c.args.pool (asked_open s c.args.numbers c.args.alpha c.args.pool c.framed-frame.result (c.framed-frame.ensures s.chip c.shape-shape.ensures.value) c.in_ok-may_open.field-0 told) t
-    (c.erase_all.ensures (ap (λ (x : Shape). x.blocks) value ∙ sym (ap (λ (x : Meaning). x.blocks) same)) ∙ ap blank same) refl refl
-    (frame_opened s c.args.numbers c.args.alpha c.args.pool c.framed-frame.result (c.framed-frame.ensures s.chip c.shape-shape.ensures.value) (g.C.Chip.shaped c.args.self.now.chip) c.in_ok-may_open.field-0 told c.in-Some.ledger c.in-Some.ensures)
+    opened_with s c.args.numbers c.args.alpha c.args.pool c.framed-frame.result (c.framed-frame.ensures s.chip value) (g.C.Chip.shaped c.args.self.now.chip) c.in_ok-may_open.field-0 told t c.in-Some.ledger c.in-Some.ensures
+    (c.erase_all.ensures (ap (λ (x : Shape). x.blocks) value ∙ sym (ap (λ (x : Meaning). x.blocks) same)) ∙ ap blank same) refl refl refl
     (c.fresh_tables.ensures s.chip (ap (λ (x : Shape). x.blocks) value) (ap (λ (x : Shape). x.pages_per_block) value)) in
     record { sound = e.2 }
 
@@ -54,8 +53,7 @@ returns g c =
     let same = c.shape-shape.ensures.same in
     let t = standing (g.C.Chip.means c.erase_all.new.chip) s.chooser (Some (record { ledger = c.in-Some.ledger; tables = c.fresh_tables.result })) in
     let e =
-    opens_on s c.args.numbers c.args.alpha c.args.pool (asked_open s c.args.numbers c.args.alpha c.args.pool c.framed-frame.result (c.framed-frame.ensures s.chip c.shape-shape.ensures.value) c.in_ok-may_open.field-0 told) t
-    (c.erase_all.ensures (ap (λ (x : Shape). x.blocks) value ∙ sym (ap (λ (x : Meaning). x.blocks) same)) ∙ ap blank same) refl refl
-    (frame_opened s c.args.numbers c.args.alpha c.args.pool c.framed-frame.result (c.framed-frame.ensures s.chip c.shape-shape.ensures.value) (g.C.Chip.shaped c.args.self.now.chip) c.in_ok-may_open.field-0 told c.in-Some.ledger c.in-Some.ensures)
+    opened_with s c.args.numbers c.args.alpha c.args.pool c.framed-frame.result (c.framed-frame.ensures s.chip value) (g.C.Chip.shaped c.args.self.now.chip) c.in_ok-may_open.field-0 told t c.in-Some.ledger c.in-Some.ensures
+    (c.erase_all.ensures (ap (λ (x : Shape). x.blocks) value ∙ sym (ap (λ (x : Meaning). x.blocks) same)) ∙ ap blank same) refl refl refl
     (c.fresh_tables.ensures s.chip (ap (λ (x : Shape). x.blocks) value) (ap (λ (x : Shape). x.pages_per_block) value)) in
     record { effect = e; promise = entered_open s t c.args.numbers c.args.alpha c.args.pool (Ok tt) (λ _. e) }

@@ -1,6 +1,5 @@
-use Rattle.std.proofs.Common.{◌≡◌, Some, Ok, Err, refl, rules}
-use Rattle.ledger.specs.Books.{asks_return, returned}
-use Rattle.ledger.specs.Of.{books_of}
+use Rattle.std.proofs.lemmas.Grind.{common_steps}
+use Rattle.std.proofs.Common.{◌≡◌, Some, Ok, Err, rules, arith}
 use Rattle.store.specs.Seen.{seen}
 use Rattle.store.proofs.Booking.{ledger_sound}
 use Rattle.store.proofs.Saving.{always_written, saved, saved_sound}
@@ -14,10 +13,7 @@ pub returns-in_err-may_spend-clause-promise : goal.returns-in_err-may_spend-clau
 returns-in_err-may_spend-clause-promise g c = entered_save (seen c.args.self.now) _ c.args.permit.seat c.args.number c.args.bytes.now _ (λ _. search rules)
 
 pub invariant_of-self-in-Err : goal.invariant_of-self-in-Err
-invariant_of-self-in-Err g c =
-    let is : c.args.self.now.opened ≡ Some c.in_ok-open.open.now = search rules in
-    let b = books_of c.in_ok-open.open.now.ledger in
-    record { sound = ledger_sound is c.args.self.now.sound c.hand_back.new.self (asks_return b c.args.permit.seat) (returned b c.args.permit.seat) c.hand_back.ensures.books refl refl c.hand_back.ensures.law }
+invariant_of-self-in-Err g c = grind (arith, common_steps, ledger_sound)
 
 pub returns-in-Err-clause-promise : goal.returns-in-Err-clause-promise
 returns-in-Err-clause-promise g c = entered_save (seen c.args.self.now) _ c.args.permit.seat c.args.number c.args.bytes.now (Err c.in-Err.refusal) (λ _. search rules)
