@@ -1,12 +1,9 @@
 -- A copy of a page, over plain values.
-use Rattle.std.proofs.Common.{◌≡◌, ℕ, ◌-◌, ◌<◌, ◌≤◌, true, ◌&&◌, ltb, leb, List, length, take, drop, Some, None, Ok, Err, Option, Result, sym, refl, ap, ◌∙◌, subst, inl, inr, arith}
-use Rattle.std.proofs.lemmas.List.{get_or_default, take_at}
-use Rattle.std.proofs.lemmas.Bool.{cases_lt, cond-true, cond-false}
+use Rattle.std.proofs.lemmas.Grind.{common_steps}
+use Rattle.std.proofs.Common.{◌≡◌, ℕ, ◌-◌, ◌<◌, ◌≤◌, true, ◌&&◌, ltb, List, length, take, Some, None, Ok, Err, Option, Result, sym, ap, ◌∙◌, subst, inr, arith}
 use Rattle.std.proofs.lemmas.Bool.Decides.{nat_tests}
-use Rattle.chip.specs.declared.words.Refusal.{Refusal}
-use Rattle.chip.specs.declared.words.Refusal.TheVariants.{NotThere, TooLong}
-use Rattle.chip.specs.Meaning.{Page, free, spoiled, written, Meaning, page_at}
-use Rattle.chip.specs.Calls.{fetched_page, fetched, in_front, data_of, fetched_into}
+use Rattle.chip.specs.Meaning.{written, Meaning}
+use Rattle.chip.specs.Calls.{fetched, fetched_into}
 use Rattle.ledger.specs.declared.refusal.Refusal.{Refusal as StoreRefusal}
 use Rattle.history.specs.Pages.{names, is_live}
 use Rattle.pages.specs.declared.tables.Tables.{Tables}
@@ -19,16 +16,6 @@ named t l q told = (grind (arith, nat_tests), grind (arith, nat_tests))
 
 -- ---- what a fetch tells
 
-there_page : (m : Meaning) (q : ℕ) → q < length m.pages → page_at m q ≡ page_in m.pages q
-there_page m q there = get_or_default m.pages q spoiled free there
-
-fetched_there : (m : Meaning) (q room : ℕ) → q < length m.pages → fetched m q room ≡ fetched_page (page_in m.pages q) room
-fetched_there m q room there =
-    cond-true (ltb q (length m.pages)) (fetched_page (page_at m q) room) (Err NotThere) (grind (arith, nat_tests)) ∙ ap (λ x. fetched_page x room) (there_page m q there)
-
-clash : {X : Type 0} (e : Refusal) (x : X) → ◌≡◌ {A = Result X Refusal} (Err e) (Ok x) → ⊥
-clash e x h = let z : ◌≡◌ {A = ℕ} 0 1 = cc in omega arith
-
 pub record Told (m : Meaning) (q room l size : ℕ) : Type 0 where
   pub bytes : List ℕ
   pub there : q < length m.pages
@@ -36,31 +23,8 @@ pub record Told (m : Meaning) (q room l size : ℕ) : Type 0 where
   pub long : size ≡ length bytes
   pub fits : length bytes ≤ room
 
-ok_of : ℕ × ℕ → Result (ℕ × ℕ) Refusal → ℕ × ℕ
-ok_of d (Ok x) = x
-ok_of d (Err e) = d
-
-ok_is : {x y : ℕ × ℕ} → ◌≡◌ {A = Result (ℕ × ℕ) Refusal} (Ok x) (Ok y) → x ≡ y
-unfolding ok_of
-ok_is {x} {y} e = ap (ok_of x) e
-
-told_page : (m : Meaning) (q room l size : ℕ) (x : Page) → q < length m.pages → page_in m.pages q ≡ x → Ok (l, size) ≡ fetched_page x room → Told m q room l size
-told_page m q room l size free there is told = absurd (clash _ _ (sym told))
-told_page m q room l size spoiled there is told = absurd (clash _ _ (sym told))
-told_page m q room l size (written k d) there is told =
-    elim (cases_lt room (length d)) [
-      | inr fits ↦ (let e : ◌≡◌ {A = Result (ℕ × ℕ) Refusal} (Ok (l, size)) (Ok (k, length d)) = told ∙ cond-true (leb (length d) room) (Ok (k, length d)) (Err TooLong) (grind (arith, nat_tests)) in
-          let p : ◌≡◌ {A = ℕ × ℕ} (l, size) (k, length d) = ok_is e in
-          record { bytes = d; there = there; is = is ∙ ap (λ z. written z d) (sym (ap (λ (z : ℕ × ℕ). z.0) p)); long = ap (λ (z : ℕ × ℕ). z.1) p; fits = fits })
-      | inl past ↦ absurd (clash _ _ (sym (told ∙ cond-false (leb (length d) room) (Ok (k, length d)) (Err TooLong) (grind (arith, nat_tests)))))
-    ]
-
 pub fetched_told : (m : Meaning) (q room l size : ℕ) → Ok (l, size) ≡ fetched m q room → Told m q room l size
-fetched_told m q room l size told =
-    elim (cases_lt q (length m.pages)) [
-      | inl there ↦ told_page m q room l size (page_in m.pages q) there refl (told ∙ fetched_there m q room there)
-      | inr past ↦ absurd (clash _ _ (sym (told ∙ cond-false (ltb q (length m.pages)) (fetched_page (page_at m q) room) (Err NotThere) (grind (arith, nat_tests)))))
-    ]
+fetched_told m q room l size told = grind (arith, common_steps)
 
 -- ---- a live page is written elsewhere
 
@@ -70,9 +34,7 @@ is_named (Some r) q h = let e : r ≡ q = grind (arith, nat_tests) in ap Some e
 
 -- the front of the buffer is the data
 fetched_front : (m : Meaning) (q room l size : ℕ) (buffer : List ℕ) (told : Told m q room l size) → take (size - 0) (fetched_into m q (Ok (l, size)) buffer) ≡ told.bytes
-fetched_front m q room l size buffer told =
-    let e : data_of (page_at m q) ≡ told.bytes = ap data_of (there_page m q told.there ∙ told.is) in
-    ap (λ d. take (size - 0) (in_front d buffer)) e ∙ take_at told.bytes (drop (length told.bytes) buffer) (size - 0) (omega (arith, told.long))
+fetched_front m q room l size buffer told = grind (arith, common_steps)
 
 moved : (m n : Meaning) (t u : Tables) (b q l : ℕ) (d : List ℕ) (r : Result ℕ StoreRefusal) → maps_of t l ≡ Some q → page_in m.pages q ≡ written l d
     → Writes m t (Some b) l d r n u → Copies m t b q r n u

@@ -1,5 +1,5 @@
 -- How many pages of a range are dead after a program.
-use Rattle.std.proofs.Common.{◌≡◌, ℕ, ◌+◌, ◌<◌, ◌≤◌, true, false, not, ◌≢◌, ◌⊎◌, List, length, get_or, set, Some, None, Option, sym, refl, ap, ◌∙◌, arith, get_or-set_other, get_or-set_same}
+use Rattle.std.proofs.Common.{◌≡◌, ℕ, ◌+◌, ◌<◌, ◌≤◌, true, false, not, ◌≢◌, ◌⊎◌, List, length, get_or, set, Some, None, Option, sym, refl, ap, ◌∙◌, arith, get_or-set_other, get_or-set_same, rules}
 use native.Mathlib.Decide.{ℕ_discrete}
 use Rattle.std.proofs.lemmas.Bool.Decides.{nat_tests}
 use Rattle.chip.specs.Meaning.{Page, free, spoiled, written}
@@ -37,26 +37,8 @@ module _ (pages : List Page) (q : ℕ) (there : q < length pages) (room : get_or
   -- ---- a good program: the page that the map named before is dead
 
   module _ (maps now : ℕ → Option ℕ) (l : ℕ) (d : List ℕ) (mapped : now l ≡ Some q) (rest : (m : ℕ) → m ≢ l → now m ≡ maps m) where
-    other_label : (k : ℕ) → k ≢ q → (maps l ≡ Some k → ⊥) → (x : Page) → is_dead now k x ≡ is_dead maps k x
-    other_label k apart other free = refl
-    other_label k apart other spoiled = refl
-    other_label k apart other (written m e) =
-        elim (ℕ_discrete m l) [
-          | yes same ↦ (let a = ap (λ o. names o k) mapped ∙ named_not (Some q) k (some_apart q k apart) in let b = named_not (maps l) k other in
-              ap (λ z. not (names (now z) k)) same ∙ ap not a ∙ sym (ap not b) ∙ ap (λ z. not (names (maps z) k)) (sym same))
-          | no differ ↦ ap (λ o. not (names o k)) (rest m differ)
-        ]
-
     dead_still : (k : ℕ) → (maps l ≡ Some k → ⊥) → is_dead now k (page_in (set pages q (written l d)) k) ≡ is_dead maps k (page_in pages k)
-    dead_still k other =
-        elim (ℕ_discrete k q) [
-          | yes same ↦ (let here : page_in (set pages q (written l d)) k ≡ written l d = ap (page_in (set pages q (written l d))) same ∙ get_or-set_same pages q (written l d) free there in
-              let new : is_dead now k (page_in (set pages q (written l d)) k) ≡ false =
-              ap (is_dead now k) here ∙ ap (λ o. not (names o k)) mapped ∙ ap (λ z. not (names (Some q) z)) same ∙ ap not (named_self q) in
-              let old : is_dead maps k (page_in pages k) ≡ false = ap (is_dead maps k) (ap (page_in pages) same ∙ room) in
-              new ∙ sym old)
-          | no apart ↦ ap (is_dead now k) (get_or-set_other pages q k (written l d) free apart) ∙ other_label k apart other (page_in pages k)
-        ]
+    dead_still k other = search rules
 
     module _ (a n : ℕ) where
       pub deads_good : ((k : ℕ) → a ≤ k → k < a + n → maps l ≡ Some k → ⊥) → deads now (page_in (set pages q (written l d))) a n ≡ deads maps (page_in pages) a n

@@ -1,5 +1,5 @@
 -- The steps of the loop that empties a block, over plain values.
-use Rattle.std.proofs.Common.{◌≡◌, ℕ, ◌+◌, ◌*◌, ◌^◌, ◌<◌, ◌≤◌, false, cond, ltb, [], length, Some, sym, refl, ap, ◌∙◌, subst, inl, inr, add-one, arith}
+use Rattle.std.proofs.Common.{◌≡◌, ℕ, ◌+◌, ◌*◌, ◌^◌, ◌<◌, ◌≤◌, false, cond, ltb, [], length, Some, sym, refl, ap, ◌∙◌, subst, inl, inr, add-one, arith, rules}
 use Rattle.std.proofs.lemmas.Bool.Decides.{nat_tests}
 use Rattle.chip.specs.Meaning.{Meaning}
 use Rattle.history.specs.Pages.{frees}
@@ -30,9 +30,6 @@ emptied_none m t b tied =
 module _ (m : Meaning) (t : Tables) (b i copies tries : ℕ) (n : Meaning) (u : Tables) (e : EmptiedTo m t b i copies tries n u) (within : i < per_block t) where
   same_per : per_block u ≡ per_block t
   same_per = ap (λ g. g.pages_per_block) e.geometry
-
-  long : length n.pages ≡ t.geometry.blocks * per_block t
-  long = e.tied.sized.long ∙ ap (λ g. g.blocks * g.pages_per_block) e.geometry
 
   -- copies never run ahead of the pages looked at
   pub copies_few : copies ≤ i
@@ -91,7 +88,7 @@ module _ (m : Meaning) (t : Tables) (b i copies tries : ℕ) (n : Meaning) (u : 
     made_some = let r = put [] in omega (arith, r.1.made)
 
     still_long : length o.pages ≡ length n.pages
-    still_long = w.tied.sized.long ∙ ap (λ g. g.blocks * g.pages_per_block) w.geometry ∙ sym e.tied.sized.long
+    still_long = search rules
 
     pub emptied_copy : EmptiedTo m t b (i + 1) (copies + 1) (tries + made) o v
     emptied_copy =

@@ -1,17 +1,15 @@
 -- A whole recycle, over plain values.
-use Rattle.std.proofs.Common.{◌≡◌, ℕ, ◌+◌, ◌-◌, ◌*◌, ◌<◌, ◌≤◌, true, List, [], ◌∷◌, length, get_or, take, sum, sym, ap, ◌∙◌, subst, inl, inr, arith, length-take}
-use Rattle.std.proofs.lemmas.List.{get_or-take}
-use Rattle.std.proofs.lemmas.Bool.{both_ways}
+use Rattle.std.proofs.lemmas.Grind.{common_steps}
+use Rattle.std.proofs.Common.{◌≡◌, ℕ, ◌+◌, ◌-◌, ◌*◌, ◌<◌, ◌≤◌, true, List, [], ◌∷◌, length, get_or, take, sum, sym, ap, ◌∙◌, inl, inr, arith, rules}
 use Rattle.chip.specs.Meaning.{Meaning, Shaped}
-use Rattle.chip.specs.Calls.{is_free, wiped, with_block_free}
+use Rattle.chip.specs.Calls.{wiped, with_block_free}
 use Rattle.chooser.specs.Law.{askable, Answers}
 use Rattle.chooser.proofs.Askable.{askable_from}
-use Rattle.chooser.proofs.Yield.{answer_yields, answer_worth}
-use Rattle.history.specs.Pages.{is_live, is_dead, frees, deads}
+use Rattle.history.specs.Pages.{is_dead, frees, deads}
 use Rattle.history.specs.History.{asked}
 use Rattle.history.specs.Work.{Emptied as EmptiedBlock, after_wipe}
 use Rattle.history.proofs.Tally.{tally_le, tally_same}
-use Rattle.history.proofs.Counts.{kinds_sum, deads_sum, live_by_map}
+use Rattle.history.proofs.Counts.{kinds_sum, deads_sum}
 use Rattle.history.proofs.Chip.{block_range, block_fits, frees_wiped}
 use Rattle.history.proofs.Recycle.{Copying}
 use Rattle.history.proofs.Laws.{emptying_copying}
@@ -20,7 +18,7 @@ use Rattle.pages.specs.Tied.{maps_of, page_in}
 use Rattle.pages.specs.Recycle.{per_block, free_in, dead_count, all_free, CanEmpty, EmptiedTo, SameBlocks, CanWipe, Wiped, CanRecycle, Recycled}
 
 pub few_bytes : (m : Meaning) → Shaped m → m.page_size ≤ 512
-few_bytes m (inl empty) = let e = ap (λ x. x.page_size) empty in omega (arith, e)
+few_bytes m (inl empty) = search rules
 few_bytes m (inr range) = range.few_bytes
 
 -- ---- the question and the block
@@ -30,10 +28,10 @@ module _ (m : Meaning) (t : Tables) (α : ℕ) (can : CanRecycle m t α) where
   counts = take (t.geometry.blocks - 0) t.dead
 
   long : length counts ≡ t.geometry.blocks
-  long = simp length-take (omega (arith, can.tied.counters, t.geometry.sized.1))
+  long = search rules
 
   each : (b : ℕ) → b < t.geometry.blocks → get_or counts b 0 ≡ dead_count m t b
-  each b there = get_or-take (t.geometry.blocks - 0) t.dead b 0 (omega arith) ∙ can.tied.dead_pages b there
+  each b there = grind (arith, common_steps)
 
   pub is_question : askable counts ≡ true
   is_question =
@@ -43,23 +41,17 @@ module _ (m : Meaning) (t : Tables) (α : ℕ) (can : CanRecycle m t α) where
       omega (arith, each b (omega (arith, long, there)), n, t.geometry.sized.3))
 
   all_dead : sum counts ≡ deads (maps_of t) (page_in m.pages) 0 (length m.pages)
-  all_dead =
-      deads_sum (maps_of t) (page_in m.pages) counts (per_block t) t.geometry.blocks long each ∙ ap (deads (maps_of t) (page_in m.pages) 0) (sym can.tied.sized.long)
+  all_dead = grind (arith, common_steps, deads_sum)
 
   module _ {S : Type 0} (before : S) (b : ℕ) (after : S) (answer : Answers counts before b after) where
     pub there : b < t.geometry.blocks
-    there = let y = answer_yields counts before b after is_question answer in omega (arith, y.there, long)
+    there = search rules
 
     pub enough : α ≤ dead_count m t b
-    enough =
-        let many : (α - 1) * length counts < sum counts = subst (λ n. (α - 1) * n < sum counts) (sym long) (omega (arith, can.dead, all_dead)) in
-        let w = answer_worth counts before b after is_question answer α can.some many in
-        omega (arith, w, each b there)
+    enough = grind (arith, common_steps, all_dead, is_question)
 
     pub can_empty : (buffer : ℕ) → m.page_size ≤ buffer → CanEmpty m t b buffer
-    can_empty buffer wide =
-        let kinds = kinds_sum (maps_of t) (page_in m.pages) (b * per_block t) (per_block t) in
-        record { tied = can.tied; block = there; wide = wide; room = omega (arith, kinds, enough, can.room) }
+    can_empty buffer wide = grind (arith, common_steps, kinds_sum, enough)
 
 -- ---- after the copies
 
@@ -72,30 +64,17 @@ module _ (m : Meaning) (t : Tables) (b copies tries : ℕ) (n : Meaning) (u : Ta
 
   -- the block holds no live page
   none_live : EmptiedBlock (per_block t) b (maps_of u)
-  none_live l q named inside =
-      let r = block_range (per_block t) q b t.geometry.sized.2 inside in
-      let w = e.tied.labelled l q named in
-      both_ways (is_live (maps_of u) q (page_in n.pages q)) (copying.done q r.0 r.1) (live_by_map (maps_of u) q l w.1.0 (page_in n.pages q) w.1.1 named)
+  none_live l q named inside = grind (arith, common_steps, block_range, copying)
 
   pub can_wipe : CanWipe n u b
-  can_wipe =
-      record {
-        tied = e.tied;
-        shape =
-            record {
-              blocks = e.sizes.blocks ∙ shape.blocks ∙ ap (λ g. g.blocks) (sym e.geometry);
-              pages = e.sizes.per_block ∙ shape.pages ∙ sym same_per;
-            };
-        block = subst (λ g. b < g.blocks) (sym e.geometry) block;
-        emptied = subst (λ p. EmptiedBlock p b (maps_of u)) (sym same_per) none_live;
-      }
+  can_wipe = grind (arith, common_steps, none_live)
 
   held_same : frees (page_in n.pages) (b * per_block t) (per_block t) ≡ free_in m t b
-  held_same = tally_same (λ q. is_free (page_in n.pages q)) (λ q. is_free (page_in m.pages q)) (b * per_block t) (per_block t) (λ q low high. ap is_free (copying.same q low high))
+  held_same = grind (arith, common_steps, tally_same, copying)
 
   module _ (α : ℕ) (worth : α ≤ dead_count m t b) where
     pages_so : (with_block_free n b).pages ≡ wiped (per_block t) b n.pages
-    pages_so = ap (λ p. wiped p b n.pages) (e.sizes.per_block ∙ shape.pages)
+    pages_so = search rules
 
     gained_so : (o : Meaning) → o ≡ with_block_free n b → length o.pages ≡ length n.pages → all_free o + tries + free_in m t b ≡ all_free m + per_block t
     gained_so o is same =

@@ -1,11 +1,10 @@
 -- The tables go on to tell the truth when a program was tried at its place.
-use Rattle.std.proofs.Common.{◌≡◌, ℕ, ◌+◌, ◌-◌, ◌*◌, ◌/◌, ◌<◌, ◌≤◌, Bool, false, ◌≢◌, List, length, get_or, set, Some, None, Option, sym, refl, ap, ◌∙◌, subst, inl, inr, mul-le-mul_right, arith, length-set, get_or-set_other, get_or-set_same}
+use Rattle.std.proofs.lemmas.Grind.{common_steps}
+use Rattle.std.proofs.Common.{◌≡◌, ℕ, ◌+◌, ◌-◌, ◌*◌, ◌<◌, ◌≤◌, Bool, false, ◌≢◌, List, length, get_or, set, Some, None, Option, sym, refl, ap, ◌∙◌, subst, arith, length-set, get_or-set_other, get_or-set_same, rules}
 use native.Mathlib.Decide.{ℕ_discrete}
-use Rattle.std.proofs.lemmas.Bool.{cases_lt}
-use Rattle.std.proofs.lemmas.Bool.Decides.{nat_tests}
 use Rattle.chip.specs.Meaning.{Page, free, spoiled, written}
 use Rattle.chip.specs.Calls.{is_free}
-use Rattle.history.specs.Pages.{is_dead, frees, deads}
+use Rattle.history.specs.Pages.{frees, deads}
 use Rattle.history.specs.Work.{Place, next_page}
 use Rattle.history.proofs.Tally.{tally_le}
 use Rattle.history.proofs.Counts.{frees_set}
@@ -16,55 +15,30 @@ use Rattle.pages.specs.Search.{total, Sized}
 use Rattle.pages.specs.Tied.{maps_of, page_in, block_of, buried, spoilt, superseded, settled, Countable, Replaceable, Labelled, Tied}
 use Rattle.pages.proofs.Deads.{deads_failed, deads_failed_elsewhere, deads_good, deads_superseded}
 
-next_there : (n q : ℕ) → q < n → next_page n q < n
-next_there n q h = grind (arith, nat_tests)
-
 module _ {most : ℕ} {pages : List Page} {t : Tables} (k : Tied most pages t) where
-  -- a page of the chip lies in one of its blocks
-  pub in_blocks : (q : ℕ) → q < length pages → block_of t q < t.geometry.blocks
-  in_blocks q there =
-      let per = t.geometry.pages_per_block in
-      let r = block_range per q (q / per) t.geometry.sized.2 refl in
-      elim (cases_lt (q / per) t.geometry.blocks) [
-        | inl below ↦ below
-        | inr past ↦ (let m = mul-le-mul_right per past in absurd (omega (arith, m, r.0, there, k.sized.long)))
-      ]
-
   -- no count of dead pages is near the end of its type
   pub countable : (q : ℕ) → q < length pages → Countable t q
-  countable q there =
-      let b = block_of t q in
-      let per = t.geometry.pages_per_block in
-      let e = k.dead_pages b (in_blocks q there) in
-      let n = tally_le (λ x. is_dead (maps_of t) x (page_in pages x)) (b * per) per in
-      let w = in_blocks q there in
-      (omega (arith, w, t.geometry.sized.1), omega (arith, e, n, t.geometry.sized.3))
+  countable q there = grind (arith, common_steps, tally_le)
 
   pub replaceable : (l : ℕ) → l < 1920 → Replaceable t l
-  replaceable l known = (known, λ q named. countable q (k.labelled l q named).0)
+  replaceable l known = grind (arith, common_steps, countable)
 
   -- where a dead page more is counted
   buried_here : (q b : ℕ) → q < length pages → b ≡ block_of t q → get_or (buried t q) b 0 ≡ get_or t.dead b 0 + 1
-  buried_here q b there same =
-      let w = in_blocks q there in
-      let small : block_of t q < length t.dead = omega (arith, w, t.geometry.sized.1, k.counters) in
-      ap (λ x. get_or (buried t q) x 0) same ∙ get_or-set_same t.dead (block_of t q) (get_or t.dead (block_of t q) 0 + 1) 0 small ∙ ap (λ x. get_or t.dead x 0 + 1) (sym same)
+  buried_here q b there same = grind (arith, common_steps)
 
   buried_elsewhere : (q b : ℕ) → (b ≡ block_of t q → ⊥) → get_or (buried t q) b 0 ≡ get_or t.dead b 0
-  buried_elsewhere q b apart = get_or-set_other t.dead (block_of t q) b (get_or t.dead (block_of t q) 0 + 1) 0 apart
+  buried_elsewhere q b apart = search rules
 
   module _ {passed : ℕ → Bool} {q : ℕ} (p : Place passed pages t.start q) where
     some_pages : 0 < t.geometry.pages_per_block
     some_pages = t.geometry.sized.2
 
     within : (b : ℕ) → b ≡ block_of t q → (b * t.geometry.pages_per_block ≤ q) × (q < b * t.geometry.pages_per_block + t.geometry.pages_per_block)
-    within b same = block_range t.geometry.pages_per_block q b some_pages (sym same)
+    within b same = grind (arith, common_steps)
 
     sized_on : (x : Page) (u : Tables) → u.geometry ≡ t.geometry → u.start ≡ next_page (total t.geometry) q → Sized (set pages q x) u
-    sized_on x u same moved =
-        let n = ap total same in
-        let w = next_there (total t.geometry) q (omega (arith, p.there, k.sized.long)) in
-        record { long = length-set pages q x ∙ k.sized.long ∙ sym n; starts = omega (arith, n, w, moved) }
+    sized_on x u same moved = search rules
 
     frees_on : (x : Page) → is_free x ≡ false → t.free - 1 ≡ frees (page_in (set pages q x)) 0 (length (set pages q x))
     frees_on x taken =
@@ -100,7 +74,7 @@ module _ {most : ℕ} {pages : List Page} {t : Tables} (k : Tied most pages t) w
 
     module _ (l : ℕ) (d : List ℕ) (known : l < 1920) (small : length d ≤ most) where
       mapped : maps_of (settled t l q) l ≡ Some q
-      mapped = get_or-set_same t.map l (Some q) None (omega (arith, k.numbers))
+      mapped = search rules
 
       rest : (m : ℕ) → m ≢ l → maps_of (settled t l q) m ≡ maps_of t m
       rest m apart = get_or-set_other t.map l m (Some q) None apart
@@ -117,10 +91,7 @@ module _ {most : ℕ} {pages : List Page} {t : Tables} (k : Tied most pages t) w
 
       dead_settled : (o : Option ℕ) → maps_of t l ≡ o → (b : ℕ) → b < t.geometry.blocks
           → get_or (superseded t o) b 0 ≡ deads (maps_of (settled t l q)) (page_in (set pages q (written l d))) (b * t.geometry.pages_per_block) t.geometry.pages_per_block
-      dead_settled None is b there =
-          let per = t.geometry.pages_per_block in
-          k.dead_pages b there ∙ sym (deads_good pages q p.there p.room (maps_of t) (maps_of (settled t l q)) l d mapped rest (b * per) per
-          (λ x low high named. let z : ◌≡◌ {A = ℕ} 0 1 = cc (is, named) in omega arith))
+      dead_settled None is b there = grind (arith, common_steps, deads_good, mapped, rest)
       dead_settled (Some old) is b there =
           let per = t.geometry.pages_per_block in
           let w = k.labelled l old is in
@@ -134,7 +105,7 @@ module _ {most : ℕ} {pages : List Page} {t : Tables} (k : Tied most pages t) w
 
       superseded_length : (o : Option ℕ) → length (superseded t o) ≡ 64
       superseded_length None = k.counters
-      superseded_length (Some old) = length-set t.dead (block_of t old) (get_or t.dead (block_of t old) 0 + 1) ∙ k.counters
+      superseded_length (Some old) = search rules
 
       pub tied_settled : Tied most (set pages q (written l d)) (settled t l q)
       tied_settled =

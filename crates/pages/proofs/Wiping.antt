@@ -1,27 +1,24 @@
 -- The erase of a block without live pages, over plain values.
-use Rattle.std.proofs.Common.{◌≡◌, ℕ, ◌+◌, ◌-◌, ◌*◌, ◌/◌, ◌^◌, ◌<◌, ◌≤◌, min, ltb, List, length, get_or, set, sym, refl, ap, ◌∙◌, subst, inl, inr, mul-le-mul, arith, length-set, get_or-set_other, get_or-set_same}
+use Rattle.std.proofs.lemmas.Grind.{common_steps}
+use Rattle.std.proofs.Common.{◌≡◌, ℕ, ◌+◌, ◌-◌, ◌*◌, ◌/◌, ◌^◌, ◌<◌, ◌≤◌, min, List, length, get_or, set, sym, refl, ap, ◌∙◌, subst, inl, inr, arith, length-set, get_or-set_other, get_or-set_same, rules}
 use native.Mathlib.Decide.{ℕ_discrete}
 use native.Mathlib.Nat.{min-eq_left}
-use Rattle.std.proofs.lemmas.Bool.{cases_Bool, cond-true}
-use Rattle.std.proofs.lemmas.Bool.Decides.{nat_tests}
+use Rattle.std.proofs.lemmas.Bool.{cases_Bool}
 use Rattle.chip.specs.Meaning.{Page, Meaning}
-use Rattle.chip.specs.Calls.{is_free, wiped, with_block_free, erased}
+use Rattle.chip.specs.Calls.{wiped, with_block_free, erased}
 use Rattle.history.specs.Pages.{is_live, is_dead, frees, lives, deads}
-use Rattle.history.specs.Work.{in_block, after_wipe, Emptied}
+use Rattle.history.specs.Work.{after_wipe, Emptied}
 use Rattle.history.proofs.Tally.{tally_none, tally_same, tally_le}
 use Rattle.history.proofs.Counts.{kinds_sum, live_named}
-use Rattle.history.proofs.Chip.{block_from, block_outside, block_fits, length_wiped, wiped_inside, wiped_outside, frees_wiped}
+use Rattle.history.proofs.Chip.{block_from, block_outside, length_wiped, wiped_inside, wiped_outside, frees_wiped}
 use Rattle.pages.specs.declared.tables.Tables.{Tables}
 use Rattle.pages.specs.Search.{total}
 use Rattle.pages.specs.Tied.{maps_of, page_in, Tied}
 use Rattle.pages.specs.Recycle.{per_block, wiped_tables, CanWipe, Wiped}
 
 module _ {most : ℕ} {pages : List Page} {t : Tables} (k : Tied most pages t) (b : ℕ) (there : b < t.geometry.blocks) (none_live : Emptied (per_block t) b (maps_of t)) where
-  some_pages : 0 < per_block t
-  some_pages = t.geometry.sized.2
-
   fits : b * per_block t + per_block t ≤ length pages
-  fits = let f = block_fits (per_block t) b t.geometry.blocks there in omega (arith, f, k.sized.long)
+  fits = search rules
 
   -- no page of the block is live
   lives_none : lives (maps_of t) (page_in pages) (b * per_block t) (per_block t) ≡ 0
@@ -43,7 +40,7 @@ module _ {most : ℕ} {pages : List Page} {t : Tables} (k : Tied most pages t) (
       omega (arith, w, kinds, d, n, lives_none, k.free_pages)
 
   outside : (q : ℕ) → (q / per_block t ≡ b → ⊥) → page_in (wiped (per_block t) b pages) q ≡ page_in pages q
-  outside q apart = wiped_outside (per_block t) b pages fits q (block_outside (per_block t) q b apart)
+  outside q apart = grind (arith, common_steps, wiped_outside, fits, block_outside)
 
   dead_on : (c : ℕ) → c < t.geometry.blocks → get_or (set t.dead b 0) c 0 ≡ deads (maps_of t) (page_in (wiped (per_block t) b pages)) (c * per_block t) (per_block t)
   dead_on c within =
@@ -58,11 +55,7 @@ module _ {most : ℕ} {pages : List Page} {t : Tables} (k : Tied most pages t) (
       ]
 
   start_on : after_wipe (per_block t) b t.start < total t.geometry
-  start_on =
-      elim (cases_Bool (in_block (per_block t) b t.start)) [
-        | inl inside ↦ (let e = cond-true (in_block (per_block t) b t.start) (b * per_block t) t.start inside in omega (arith, e, fits, k.sized.long, some_pages))
-        | inr apart ↦ (let s = k.sized.starts in grind (arith, nat_tests, s, apart))
-      ]
+  start_on = search rules
 
   pub tied_wiped : Tied most (wiped (per_block t) b pages) (wiped_tables t b)
   tied_wiped =
@@ -81,20 +74,12 @@ module _ {most : ℕ} {pages : List Page} {t : Tables} (k : Tied most pages t) (
 
   -- no count is near the end of its type
   pub free_fits : t.free + get_or t.dead b 0 < 65536
-  free_fits =
-      let n = tally_le (λ q. is_dead (maps_of t) q (page_in pages q)) (b * per_block t) (per_block t) in
-      let f = tally_le (λ q. is_free (page_in pages q)) 0 (length pages) in
-      let d = k.dead_pages b there in
-      let few : t.geometry.blocks * per_block t ≤ 64 * 32 = mul-le-mul t.geometry.sized.1 t.geometry.sized.3 in
-      omega (arith, n, f, d, few, k.free_pages, k.sized.long, t.geometry.sized.3)
+  free_fits = grind (arith, common_steps, tally_le)
 
 -- an erase of the block
 module _ (m : Meaning) (t : Tables) (b : ℕ) (can : CanWipe m t b) where
   same_pages : wiped m.per_block b m.pages ≡ wiped (per_block t) b m.pages
   same_pages = ap (λ p. wiped p b m.pages) can.shape.pages
-
-  pub erased_is : erased m b ≡ with_block_free m b
-  erased_is = cond-true (ltb b m.blocks) (with_block_free m b) m (let h : b < m.blocks = omega (arith, can.block, can.shape.blocks) in grind (arith, nat_tests, h))
 
   wiped_both : Wiped m t b (with_block_free m b) (wiped_tables t b)
   wiped_both =
@@ -105,14 +90,11 @@ module _ (m : Meaning) (t : Tables) (b : ℕ) (can : CanWipe m t b) where
       }
 
   pub wiped_so : (n : Meaning) (u : Tables) → n ≡ erased m b → u ≡ wiped_tables t b → Wiped m t b n u
-  wiped_so n u is done =
-      subst (λ x. Wiped m t b x u) (sym (is ∙ erased_is)) (subst (λ x. Wiped m t b (with_block_free m b) x) (sym done) wiped_both)
+  wiped_so n u is done = grind (arith, common_steps, wiped_both)
 
 pub small_sum : (r a b : ℕ) → r ≡ min (a + b) (2 ^ 16 - 1) → a + b < 65536 → r ≡ a + b
 small_sum r a b is fits = is ∙ min-eq_left (omega arith)
 
 pub tables_so : (t : Tables) (b space start : ℕ) → space ≡ t.free + get_or t.dead b 0 → start ≡ after_wipe (per_block t) b t.start
     → ◌≡◌ {A = Tables} (record { map = t.map; dead = set t.dead b 0; free = space; start = start; geometry = t.geometry }) (wiped_tables t b)
-tables_so t b space start e f =
-    ap (λ x. record { map = t.map; dead = set t.dead b 0; free = x; start = start; geometry = t.geometry }) e
-    ∙ ap (λ x. record { map = t.map; dead = set t.dead b 0; free = t.free + get_or t.dead b 0; start = x; geometry = t.geometry }) f
+tables_so t b space start e f = search rules

@@ -1,5 +1,6 @@
 -- The steps of the loop of tries, over plain values.
-use Rattle.std.proofs.Common.{◌≡◌, ℕ, suc, ◌+◌, ◌-◌, ◌*◌, ◌/◌, ◌<◌, ◌≤◌, true, false, ◌⊎◌, List, ◌∷◌, length, get_or, set, Some, None, Ok, Option, sym, refl, ap, ◌∙◌, subst, inl, inr, add-one, arith, length-set, get_or-set_other, get_or-set_same}
+use Rattle.std.proofs.lemmas.Grind.{common_steps}
+use Rattle.std.proofs.Common.{◌≡◌, ℕ, suc, ◌+◌, ◌-◌, ◌*◌, ◌/◌, ◌<◌, ◌≤◌, true, false, ◌⊎◌, List, ◌∷◌, length, get_or, set, Some, None, Ok, Option, sym, refl, ap, ◌∙◌, subst, inl, inr, add-one, arith, length-set, get_or-set_other, get_or-set_same, rules}
 use Rattle.std.proofs.lemmas.Bool.{both_ways, eqb-false, ne_eqb}
 use Rattle.chip.specs.Meaning.{Page, spoiled, Meaning, Shaped}
 use Rattle.chip.specs.Calls.{is_free, programmed, Programmed}
@@ -16,7 +17,7 @@ use Rattle.pages.specs.Write.{held, Skips, CanWrite, SameSize, Wrote}
 use Rattle.pages.proofs.Truth.{tied_spoilt, tied_settled}
 
 pub few_failures : (m : Meaning) → Shaped m → m.allowance ≤ 65535
-few_failures m (inl empty) = let e = ap (λ x. x.allowance) empty in omega (arith, e)
+few_failures m (inl empty) = search rules
 few_failures m (inr range) = range.few_failures
 
 -- after so many failed tries
@@ -41,9 +42,7 @@ held_on u (Some b) pages q x out =
 -- some page outside a block is free
 some_place : {most : ℕ} (u : Tables) (skip : Option ℕ) (pages : List Page) → Tied most pages u → Skips u skip → held u skip pages < frees (page_in pages) 0 (length pages)
     → ((k : ℕ) → k < length pages → over u.geometry.pages_per_block skip k ≡ false → is_free (page_in pages k) ≡ false) → ⊥
-some_place u None pages tied skips room closed =
-    let z = tally_none (λ k. is_free (page_in pages k)) 0 (length pages) (λ k low high. closed k (omega arith) refl) in
-    omega (arith, z)
+some_place u None pages tied skips room closed = grind (arith, common_steps, tally_none)
 some_place u (Some b) pages tied skips room closed =
     let per = u.geometry.pages_per_block in
     let fits = block_fits per b u.geometry.blocks skips in
@@ -67,7 +66,7 @@ module _ (m : Meaning) (t : Tables) (skip : Option ℕ) (l : ℕ) (d : List ℕ)
 
   -- the place, as the write began to look for it
   placed : Place (over t.geometry.pages_per_block skip) n.pages u.start q
-  placed = subst (λ g. Place (over g.pages_per_block skip) n.pages u.start q) y.geometry p
+  placed = search rules
 
   failed_room : 1 ≤ n.allowance → n.allowance - 1 + held u skip (set n.pages q spoiled) < frees (page_in (set n.pages q spoiled)) 0 (length (set n.pages q spoiled))
   failed_room may =
@@ -107,10 +106,7 @@ module _ (m : Meaning) (t : Tables) (skip : Option ℕ) (l : ℕ) (d : List ℕ)
       room_on (Some b) h = h
 
   pub trying_more : (o after : Meaning) (v : Tables) → o ≡ n → Programmed o q l d (Ok false) after → v ≡ spoilt u q → Trying m t skip l d (tries + 1) after v
-  trying_more o after v same did is =
-      let may : 1 ≤ n.allowance = subst (λ (x : Meaning). 1 ≤ x.allowance) same did.1 in
-      let e : after ≡ programmed n q l d false = did.2 ∙ ap (λ (x : Meaning). programmed x q l d false) same in
-      subst (λ x. Trying m t skip l d (tries + 1) x v) (sym e) (subst (λ x. Trying m t skip l d (tries + 1) (programmed n q l d false) x) (sym is) (failed_on may))
+  trying_more o after v same did is = grind (arith, common_steps, failed_on)
 
   -- and the good one
   good_on : n.allowance + tries ≡ m.allowance → Wrote m t skip l d (tries + 1) (programmed n q l d true) (settled u l q)
@@ -142,14 +138,9 @@ module _ (m : Meaning) (t : Tables) (skip : Option ℕ) (l : ℕ) (d : List ℕ)
       }
 
   pub trying_good : (o after : Meaning) (v : Tables) → n.allowance + tries ≡ m.allowance → o ≡ n → Programmed o q l d (Ok true) after → v ≡ settled u l q → Wrote m t skip l d (tries + 1) after v
-  trying_good o after v counted same did is =
-      let e : after ≡ programmed n q l d true = did.2 ∙ ap (λ (x : Meaning). programmed x q l d true) same in
-      subst (λ x. Wrote m t skip l d (tries + 1) x v) (sym e) (subst (λ x. Wrote m t skip l d (tries + 1) (programmed n q l d true) x) (sym is) (good_on counted))
+  trying_good o after v counted same did is = grind (arith, common_steps, good_on)
 
 -- a failed program takes one from the allowance
 pub failed_allowance : (m n o : Meaning) (q l tries : ℕ) (d : List ℕ) (after : Meaning) → n.allowance + tries ≡ m.allowance → o ≡ n → Programmed o q l d (Ok false) after
     → after.allowance + (tries + 1) ≡ m.allowance
-failed_allowance m n o q l tries d after counted same did =
-    let e = ap (λ (x : Meaning). x.allowance) did.2 in
-    let f = ap (λ (x : Meaning). x.allowance) same in
-    omega (arith, counted, e, f, did.1)
+failed_allowance m n o q l tries d after counted same did = search rules

@@ -1,7 +1,6 @@
 -- A call on the ledger alone leaves the store sound. Assumes nothing.
-use Rattle.std.proofs.Common.{◌≡◌, ◌<◌, ◌≤◌, true, Some, None, MatchBool, Option, sym, refl, ap, ◌∙◌, subst, arith}
+use Rattle.std.proofs.Common.{◌≡◌, ◌≤◌, true, Some, Option, rules}
 use Rattle.chip.specs.Meaning.{Meaning}
-use Rattle.ledger.specs.declared.frame.Frame.{Frame}
 use Rattle.ledger.specs.declared.refusal.Refusal.{Refusal}
 use Rattle.ledger.specs.declared.ledger.Ledger.{Ledger}
 use Rattle.ledger.specs.Books.{Books, tokens, unless}
@@ -10,28 +9,14 @@ use Rattle.ledger.specs.Of.{books_of}
 use Rattle.pages.specs.declared.tables.Tables.{Tables}
 use Rattle.store.specs.declared.open.Open.{Open}
 use Rattle.store.specs.State.{SoundAt, Standing, standing, OpenSound, Sound}
-use Rattle.store.specs.Effects.{if_open, SameButBooks, Booked}
 
 -- other books with the same frame, as much in the spare account and no more tokens
 pub sound_at : {m n : Meaning} {b c : Books} {t u : Tables} → n ≡ m → u ≡ t → c.frame ≡ b.frame → c.spare ≡ b.spare → tokens c ≤ tokens b → SoundAt m b t → SoundAt n c u
-sound_at {m} {n} {b} {c} {t} {u} chip tables frame spare fewer at =
-    subst (λ (x : Meaning). SoundAt x c u) (sym chip)
-    (subst (λ (x : Tables). SoundAt m c x) (sym tables)
-    (record {
-      tied = at.tied;
-      shape = at.shape;
-      blocks = ap (λ (f : Frame). f.blocks) frame ∙ at.blocks;
-      per_block = ap (λ (f : Frame). f.pages_per_block) frame ∙ at.per_block;
-      page_size = ap (λ (f : Frame). f.page_size) frame ∙ at.page_size;
-      numbers = subst (λ (f : Frame). f.numbers ≤ 1920) (sym frame) at.numbers;
-      labels = λ l q named. subst (λ (f : Frame). l < f.numbers) (sym frame) (at.labels l q named);
-      spare = subst (λ x. m.allowance ≤ x) (sym spare) at.spare;
-      room = omega (arith, fewer, at.room);
-    }))
+sound_at {m} {n} {b} {c} {t} {u} chip tables frame spare fewer at = search rules
 
 module _ {C H : Type 0} {means : C → Meaning} (s : Standing means H) where
   pub sound_open : s.is_open ≡ true → Sound s → OpenSound s
-  sound_open is sound = subst (λ x. MatchBool x (OpenSound s) (Unit {0})) is sound
+  sound_open is sound = search rules
 
   pub open_sound : s.is_open ≡ true → OpenSound s → Sound s
   open_sound is sound = subst (λ x. MatchBool x (OpenSound s) (Unit {0})) (sym is) sound

@@ -1,13 +1,13 @@
 -- Why a run that needs a recycle always gets one, and what it leaves: over chip meaning, books and tables.
-use Rattle.std.proofs.Common.{◌≡◌, ℕ, ◌+◌, ◌-◌, ◌*◌, ◌<◌, ◌≤◌, true, ◌≢◌, List, [], length, Some, Option, sym, ap, ◌∙◌, subst, add-mul, arith, ltb-true}
-use native.Mathlib.Decide.{ℕ_discrete}
+use Rattle.std.proofs.lemmas.Grind.{common_steps}
+use Rattle.std.proofs.Common.{◌≡◌, ℕ, ◌+◌, ◌-◌, ◌*◌, ◌<◌, ◌≤◌, true, ◌≢◌, List, [], length, Some, Option, sym, ap, ◌∙◌, arith, rules}
 use Rattle.chip.specs.Meaning.{Page, Meaning}
-use Rattle.plan.specs.Yield.{YieldRule, yield_rule}
+use Rattle.plan.specs.Yield.{yield_rule}
 use Rattle.ledger.specs.Books.{Books, tokens, highest, ran_once}
 use Rattle.ledger.specs.Fair.{FairBooks}
 use Rattle.ledger.specs.Steps.{owes}
 use Rattle.ledger.specs.Settled.{SettledBut}
-use Rattle.ledger.proofs.Settles.{owing, below_owing}
+use Rattle.ledger.proofs.Settles.{below_owing}
 use Rattle.ledger.proofs.Tokens.{tokens_capped, collector_within, tokens_ran}
 use Rattle.history.specs.Pages.{lives, deads}
 use Rattle.history.specs.History.{History}
@@ -21,11 +21,7 @@ use Rattle.store.specs.State.{paid_for, SoundAt}
 
 -- the yield rule with its subtractions where the rule has them
 rule_apart : (blocks size numbers high α : ℕ) → 1 ≤ α → yield_rule blocks size numbers high α ≡ true → numbers + high + (α - 1) + (α - 1) * blocks < blocks * size
-rule_apart blocks size numbers high α some rule =
-    let whole : α - 1 + 1 ≡ α = omega arith in
-    let parts = ap (λ x. x * blocks) (sym whole) ∙ add-mul (α - 1) 1 blocks in
-    let r : YieldRule blocks size numbers high α = ltb-true (numbers + high + α + α * blocks) (blocks * size + blocks + 1) rule in
-    omega (arith, parts, r, some)
+rule_apart blocks size numbers high α some rule = search rules
 
 module _ (m : Meaning) (b : Books) (t : Tables) (s : SoundAt m b t) where
   pub same_per : b.frame.pages_per_block ≡ per_block t
@@ -35,7 +31,7 @@ module _ (m : Meaning) (b : Books) (t : Tables) (s : SoundAt m b t) where
   same_blocks = s.blocks ∙ s.shape.blocks
 
   size : length m.pages ≡ b.frame.blocks * b.frame.pages_per_block
-  size = s.tied.sized.long ∙ ap (λ x. x * per_block t) (sym same_blocks) ∙ ap (λ x. b.frame.blocks * x) (sym same_per)
+  size = search rules
 
   module _ (i : ℕ) (fair : FairBooks b) (owed : 0 < owes b i) (but : SettledBut i b) (short : all_free m < tokens b + b.frame.alpha) where
     -- more than (α − 1) pages to a block are dead
@@ -52,25 +48,13 @@ module _ (m : Meaning) (b : Books) (t : Tables) (s : SoundAt m b t) where
         (rule_apart N π f.numbers (highest b) f.alpha fair.yields fair.rule) (kinds ∙ size) live short cap
 
     pub can_recycle : CanRecycle m t b.frame.alpha
-    can_recycle =
-        let w = collector_within b i fair (owing b i fair owed).0 in
-        record {
-          tied = s.tied;
-          shape = s.shape;
-          some = fair.yields;
-          dead = subst (λ n. (b.frame.alpha - 1) * n < deads (maps_of t) (page_in m.pages) 0 (length m.pages)) same_blocks many;
-          room = omega (arith, w, same_per, s.spare, s.room);
-        }
+    can_recycle = grind (arith, common_steps, collector_within, many)
 
 -- ---- labels stay in range
 
 moved_labels : (n l : ℕ) (maps next : ℕ → Option ℕ) → ((k q : ℕ) → maps k ≡ Some q → k < n) → (q₀ : ℕ) → maps l ≡ Some q₀ → ((k : ℕ) → k ≢ l → next k ≡ maps k)
     → (k q : ℕ) → next k ≡ Some q → k < n
-moved_labels n l maps next within q₀ named others k q is =
-    elim (ℕ_discrete k l) [
-      | yes same ↦ (let h = within l q₀ named in omega arith)
-      | no apart ↦ within k q (sym (others k apart) ∙ is)
-    ]
+moved_labels n l maps next within q₀ named others k q is = search rules
 
 emptied_labels : (n : ℕ) {size b : ℕ} {h : History} {maps : ℕ → Option ℕ} {pages : List Page} {start i copies : ℕ} {t : History} {now : ℕ → Option ℕ} {left : List Page} {from : ℕ}
     → Emptying size b h maps pages start i copies t now left from → ((k q : ℕ) → maps k ≡ Some q → k < n) → (k q : ℕ) → now k ≡ Some q → k < n
@@ -83,18 +67,7 @@ emptied_labels n (copied {now = now} {next = next} l d e named is put) within = 
 module _ (m : Meaning) (b : Books) (t : Tables) (s : SoundAt m b t) (i : ℕ) (there : i < length b.seats) where
   -- without a recycle: there were pages to spare
   pub sound_ran : tokens b + b.frame.alpha ≤ all_free m → SoundAt m (ran_once b i) t
-  sound_ran wide =
-      record {
-        tied = s.tied;
-        shape = s.shape;
-        blocks = s.blocks;
-        per_block = s.per_block;
-        page_size = s.page_size;
-        numbers = s.numbers;
-        labels = s.labels;
-        spare = s.spare;
-        room = omega (arith, wide, tokens_ran b i there);
-      }
+  sound_ran wide = grind (arith, common_steps, tokens_ran)
 
 pub tokens_paid_for : (b : Books) (n : ℕ) → n ≤ b.spare → tokens (paid_for n b) + n ≡ tokens b
 tokens_paid_for b n within = omega (arith, within)

@@ -60,7 +60,7 @@ walk_grows (ends w q) = walk_grows w
 
 module _ {C H : Type 0} {means : C → Meaning} (s t : Standing means H) where
   entered : {h past : History} (e : Entry) → Grows h past → Run (e ∷ past) t → Entered e h t
-  entered {past = past} e grows run = record { past = past; grows = grows; run = run; promise = run_promised run }
+  entered {past = past} e grows run = grind (arith, common_steps, run_promised)
 
   pub entered_open : (numbers alpha pool : ℕ) (r : Result (Unit {0}) Refusal) → (Sound s → Opens s numbers alpha pool r t)
       → (h : History) → Run h s → Entered (entry_open numbers alpha pool r) h t

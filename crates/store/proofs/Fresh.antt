@@ -1,24 +1,21 @@
 -- An opening, over plain values. Assumes nothing.
-use Rattle.std.proofs.Common.{◌≡◌, ℕ, ◌+◌, ◌*◌, ◌<◌, ◌≤◌, Bool, true, false, cond, not, ◌&&◌, leb, length, get_or, replicate, Some, None, Ok, Err, Option, Result, sym, refl, ap, ◌∙◌, subst, inl, inr, mul-le-mul_right, mul-le-mul, arith}
+use Rattle.std.proofs.lemmas.Grind.{common_steps}
+use Rattle.std.proofs.Common.{◌≡◌, ℕ, ◌+◌, ◌*◌, ◌<◌, ◌≤◌, Bool, true, false, cond, length, get_or, replicate, Some, None, Ok, Err, Option, Result, sym, refl, ap, ◌∙◌, subst, inl, inr, mul-le-mul, arith, rules}
 use lib.ListN.{length-replicate, get_or-replicate}
 use Rattle.std.specs.Option.{option_map}
-use Rattle.std.proofs.lemmas.List.{get_or_past}
-use Rattle.std.proofs.lemmas.Bool.{cases_lt, cond-true, ltb-true, le-leb, leb-true, and_parts, and_from, not-true}
 use Rattle.chip.specs.Meaning.{free, Meaning, Shaped}
 use Rattle.chip.specs.declared.words.Shape.{Shape}
-use Rattle.chip.specs.Calls.{shape_of, is_free}
+use Rattle.chip.specs.Calls.{shape_of}
 use Rattle.plan.specs.Yield.{yield_rule}
 use Rattle.ledger.specs.declared.frame.Frame.{Frame}
 use Rattle.ledger.specs.declared.ledger.Ledger.{Ledger}
 use Rattle.ledger.specs.declared.refusal.Refusal.{Refusal}
-use Rattle.ledger.specs.declared.refusal.Refusal.TheVariants.{AlreadyOpen, BlocksOutOfRange, NumbersOutOfRange, AlphaOutOfRange, YieldRuleFails}
 use Rattle.ledger.specs.Books.{Books, answer}
 use Rattle.ledger.specs.Fair.{stands, opened as opened_books}
 use Rattle.ledger.specs.Of.{books_of}
 use Rattle.ledger.specs.Settled.{Settled}
-use Rattle.ledger.proofs.Answered.{asked}
 use Rattle.ledger.proofs.Settles.{opened_settled}
-use Rattle.history.specs.Pages.{is_dead, frees}
+use Rattle.history.specs.Pages.{is_dead}
 use Rattle.history.proofs.Tally.{tally_none, tally_all}
 use Rattle.history.proofs.Chip.{all_free as all_are_free}
 use Rattle.pages.specs.declared.geometry.Geometry.{Geometry}
@@ -29,17 +26,12 @@ use Rattle.store.specs.State.{Standing}
 use Rattle.store.specs.State.{frame_for, SoundAt}
 use Rattle.store.specs.Effects.{asks_frame, asks_open, blank, FreshTables, Opens}
 use Rattle.store.proofs.Booking.{open_sound}
-use Rattle.store.proofs.Saving.{refused_by, none_by}
 
 -- ---- every block is erased
 
 pub shaped_long : (m : Meaning) → Shaped m → length m.pages ≡ m.blocks * m.per_block
-shaped_long m (inl empty) = ap (λ (x : Meaning). length x.pages) empty ∙ sym (ap (λ (x : Meaning). x.blocks * x.per_block) empty)
+shaped_long m (inl empty) = search rules
 shaped_long m (inr range) = range.all_pages
-
-pub small_blocks : (m : Meaning) → Shaped m → m.per_block ≤ 32
-small_blocks m (inl empty) = let e = ap (λ (x : Meaning). x.per_block) empty in omega (arith, e)
-small_blocks m (inr range) = range.few_pages
 
 -- the first blocks are erased
 pub record ErasedTo (m n : Meaning) (b : ℕ) : Type 0 where
@@ -67,69 +59,21 @@ pub record Openable (is_open : Bool) (f : Frame) : Type 0 where
   pub yields_within : f.alpha ≤ f.pages_per_block
   pub rule : yield_rule f.blocks f.pages_per_block f.numbers (f.pool + f.allowance) f.alpha ≡ true
 
-pub openable : (is_open : Bool) (f : Frame) → asks_frame is_open f ≡ None → Openable is_open f
-openable is_open f none =
-    let first = asked (not is_open) AlreadyOpen _ none in
-    let second = asked (leb 2 f.blocks && leb f.blocks 64) BlocksOutOfRange _ first.1 in
-    let third = asked (leb 1 f.numbers && leb f.numbers 1920) NumbersOutOfRange _ second.1 in
-    let fourth = asked (leb 1 f.alpha && leb f.alpha f.pages_per_block) AlphaOutOfRange _ third.1 in
-    let fifth = asked (yield_rule f.blocks f.pages_per_block f.numbers (f.pool + f.allowance) f.alpha) YieldRuleFails None fourth.1 in
-    let sized = and_parts (leb 2 f.blocks) (leb f.blocks 64) second.0 in
-    let offered = and_parts (leb 1 f.numbers) (leb f.numbers 1920) third.0 in
-    let won = and_parts (leb 1 f.alpha) (leb f.alpha f.pages_per_block) fourth.0 in
-    record {
-      shut = not-true is_open first.0;
-      some_blocks = leb-true _ _ sized.0;
-      few_blocks = leb-true _ _ sized.1;
-      few_numbers = leb-true _ _ offered.1;
-      yields = leb-true _ _ won.0;
-      yields_within = leb-true _ _ won.1;
-      rule = fifth.0;
-    }
-
-pub stands_so : (is_open : Bool) (f : Frame) → f.pages_per_block ≤ 32 → Openable is_open f → stands f ≡ true
-stands_so is_open f small o =
-    and_from (leb 1 f.alpha && leb f.alpha f.pages_per_block) ((leb f.pages_per_block 32 && leb f.blocks 64) && yield_rule f.blocks f.pages_per_block f.numbers (f.pool + f.allowance) f.alpha)
-    (and_from (leb 1 f.alpha) (leb f.alpha f.pages_per_block) (le-leb _ _ o.yields) (le-leb _ _ o.yields_within))
-    (and_from (leb f.pages_per_block 32 && leb f.blocks 64) (yield_rule f.blocks f.pages_per_block f.numbers (f.pool + f.allowance) f.alpha)
-    (and_from (leb f.pages_per_block 32) (leb f.blocks 64) (le-leb _ _ small) (le-leb _ _ o.few_blocks)) o.rule)
-
-pub ledger_opened : (is_open : Bool) (f : Frame) (l : Ledger) → f.pages_per_block ≤ 32 → Openable is_open f → option_map books_of (Some l) ≡ cond (stands f) (Some (opened_books f)) None
-    → books_of l ≡ opened_books f
-ledger_opened is_open f l small o told =
-    let e : ◌≡◌ {A = Option Books} (Some (books_of l)) (Some (opened_books f)) = told ∙ cond-true (stands f) (Some (opened_books f)) None (stands_so is_open f small o) in
-    cc
-
-pub never_closed : (is_open : Bool) (f : Frame) → f.pages_per_block ≤ 32 → Openable is_open f → option_map books_of None ≡ cond (stands f) (Some (opened_books f)) None → ⊥
-never_closed is_open f small o told =
-    let e : ◌≡◌ {A = Option Books} None (Some (opened_books f)) = told ∙ cond-true (stands f) (Some (opened_books f)) None (stands_so is_open f small o) in
-    let z : ◌≡◌ {A = ℕ} 0 1 = cc in
-    omega arith
+openable : (is_open : Bool) (f : Frame) → asks_frame is_open f ≡ None → Openable is_open f
+openable is_open f none = search rules
 
 -- the sizes that the tables take
-pub geometry_sized : (is_open : Bool) (m : Meaning) (shape : Shape) (numbers alpha pool : ℕ) → shape ≡ shape_of m → Shaped m → Openable is_open (frame_for m numbers alpha pool)
+geometry_sized : (is_open : Bool) (m : Meaning) (shape : Shape) (numbers alpha pool : ℕ) → shape ≡ shape_of m → Shaped m → Openable is_open (frame_for m numbers alpha pool)
     → (1 ≤ shape.blocks) × (shape.blocks ≤ 64) × (1 ≤ shape.pages_per_block) × (shape.pages_per_block ≤ 32)
-geometry_sized is_open m shape numbers alpha pool is shaped o =
-    let b = ap (λ (x : Shape). x.blocks) is in
-    let p = ap (λ (x : Shape). x.pages_per_block) is in
-    let small = small_blocks m shaped in
-    (omega (arith, b, o.some_blocks), omega (arith, b, o.few_blocks), omega (arith, p, o.yields, o.yields_within), omega (arith, p, small))
+geometry_sized is_open m shape numbers alpha pool is shaped o = search rules
 
 -- ---- the tables of a blank chip
 
 none_named : (n l : ℕ) → get_or {A = Option ℕ} (replicate n None) l None ≡ None
-none_named n l =
-    elim (cases_lt l n) [
-      | inl there ↦ get_or-replicate n l None None there
-      | inr past ↦ get_or_past (replicate n None) l None (simp length-replicate (omega arith))
-    ]
+none_named n l = grind (arith, common_steps)
 
 all_free_page : (n q : ℕ) → get_or (replicate n free) q free ≡ free
-all_free_page n q =
-    elim (cases_lt q n) [
-      | inl there ↦ get_or-replicate n q free free there
-      | inr past ↦ get_or_past (replicate n free) q free (simp length-replicate (omega arith))
-    ]
+all_free_page n q = grind (arith, common_steps)
 
 module _ (m : Meaning) (t : Tables) (fresh : FreshTables m t) where
   no_map : (l q : ℕ) → maps_of t l ≡ Some q → ⊥
@@ -139,10 +83,7 @@ module _ (m : Meaning) (t : Tables) (fresh : FreshTables m t) where
       omega arith
 
   pub blank_free : all_free (blank m) ≡ m.blocks * m.per_block
-  blank_free =
-      let n = m.blocks * m.per_block in
-      ap (frees (page_in (replicate n free)) 0) (length-replicate n free)
-      ∙ tally_all (λ q. is_free (page_in (replicate n free) q)) 0 n (λ k low high. ap is_free (all_free_page n k))
+  blank_free = grind (arith, common_steps, tally_all)
 
   fresh_tied : Tied m.page_size (blank m).pages t
   fresh_tied =
@@ -164,10 +105,7 @@ module _ (m : Meaning) (t : Tables) (fresh : FreshTables m t) where
   module _ (is_open : Bool) (numbers alpha pool : ℕ) (o : Openable is_open (frame_for m numbers alpha pool)) where
     -- the yield rule leaves a free page for every token
     enough : pool + m.allowance ≤ m.blocks * m.per_block
-    enough =
-        let r = ltb-true (numbers + (pool + m.allowance) + alpha + alpha * m.blocks) (m.blocks * m.per_block + m.blocks + 1) o.rule in
-        let w : 1 * m.blocks ≤ alpha * m.blocks = mul-le-mul_right m.blocks o.yields in
-        omega (arith, r, w, o.yields)
+    enough = search rules
 
     pub fresh_sound : SoundAt (blank m) (opened_books (frame_for m numbers alpha pool)) t
     fresh_sound =
@@ -221,19 +159,23 @@ module _ {C H : Type 0} {means : C → Meaning} (s : Standing means H) (numbers 
 
   pub not_opened : (t : Standing means H) (e : Refusal) → ◌≡◌ {A = Result (Unit {0}) Refusal} (Err e) (answer (asks_frame s.is_open f) tt) → t.chip ≡ s.chip → t.chooser ≡ s.chooser
       → t.is_open ≡ s.is_open → t.ledger ≡ s.ledger → t.tables ≡ s.tables → Opens s numbers alpha pool (Err e) t
-  not_opened t e told chip chooser is_open ledger tables =
-      (ap (asks_frame s.is_open) (sym is) ∙ refused_by (asks_frame s.is_open f) e told, record { rest = record { chip = chip; chooser = chooser; is_open = is_open; tables = tables }; ledger = ledger })
+  not_opened t e told chip chooser is_open ledger tables = search rules
 
   module _ (shaped : Shaped s.chip) (x : Unit {0}) (told : ◌≡◌ {A = Result (Unit {0}) Refusal} (Ok x) (answer (asks_frame s.is_open f) tt)) where
-    pub may : Openable s.is_open (frame_for s.chip numbers alpha pool)
-    may = openable s.is_open (frame_for s.chip numbers alpha pool) (asked_open x told)
+    may : Openable s.is_open (frame_for s.chip numbers alpha pool)
+    may = search rules
 
     pub frame_refused : option_map books_of None ≡ cond (stands f) (Some (opened_books f)) None → ⊥
-    frame_refused said =
-        never_closed s.is_open (frame_for s.chip numbers alpha pool) (small_blocks s.chip shaped) may
-        (said ∙ ap (λ (y : Frame). cond (stands y) (Some (opened_books y)) None) is)
+    frame_refused said = search rules
 
-    pub frame_opened : (l : Ledger) → option_map books_of (Some l) ≡ cond (stands f) (Some (opened_books f)) None → books_of l ≡ opened_books (frame_for s.chip numbers alpha pool)
-    frame_opened l said =
-        ledger_opened s.is_open (frame_for s.chip numbers alpha pool) l (small_blocks s.chip shaped) may
-        (said ∙ ap (λ (y : Frame). cond (stands y) (Some (opened_books y)) None) is)
+    frame_opened : (l : Ledger) → option_map books_of (Some l) ≡ cond (stands f) (Some (opened_books f)) None → books_of l ≡ opened_books (frame_for s.chip numbers alpha pool)
+    frame_opened l said = search rules
+
+    -- a store with these parts was opened
+    pub opened_with : (t : Standing H) (l : Ledger) → option_map books_of (Some l) ≡ cond (stands f) (Some (opened_books f)) None
+        → t.chip ≡ blank s.chip → t.chooser ≡ s.chooser → t.is_open ≡ true → t.ledger ≡ l → FreshTables s.chip t.tables → Opens s numbers alpha pool (Ok tt) t
+    opened_with t l said chip chooser is_open ledger fresh =
+        opens_on s numbers alpha pool (asked_open x told) t chip chooser is_open (ap books_of ledger ∙ frame_opened l said) fresh
+
+    pub opened_sized : (shape : Shape) → shape ≡ shape_of s.chip → (1 ≤ shape.blocks) × (shape.blocks ≤ 64) × (1 ≤ shape.pages_per_block) × (shape.pages_per_block ≤ 32)
+    opened_sized shape so = geometry_sized s.is_open s.chip shape numbers alpha pool so shaped may

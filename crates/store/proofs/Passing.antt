@@ -31,4 +31,4 @@ module _ {C H : Type 0} {means : C → Meaning} where
   -- an open store is sound after its tick, whatever the tick answers
   pub ticked_sound : (s t : Standing means H) (r : Result Ticked Refusal) → s.is_open ≡ true → t.is_open ≡ true → Ticks s r t → OpenSound t
   ticked_sound s t (Ok k) is after did = sound_open t after (did []).1.sound
-  ticked_sound s t (Err e) is after did = absurd (true≢false (sym is ∙ did.0))
+  ticked_sound s t (Err e) is after did = search rules

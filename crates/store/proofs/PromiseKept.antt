@@ -7,10 +7,10 @@ use Rattle.history.specs.History.{History}
 use Rattle.history.specs.Promise.{Promised}
 use Rattle.history.proofs.Follows.{follows_promised, shut_promised}
 use Rattle.store.specs.State.{Standing}
-use Rattle.store.specs.State.{OpenSound, Sound, view_of}
+use Rattle.store.specs.State.{Sound, view_of}
 use Rattle.store.specs.Calls.{Run, fresh, then_open, then_admit, then_notice, then_take, then_return, then_store, then_no_store, then_read, then_tick, then_no_tick}
 use Rattle.store.proofs.Booking.{open_sound}
-use Rattle.store.proofs.Invariant.{Inv, inv_open, inv_shut, shut_inv, some_pages}
+use Rattle.store.proofs.Invariant.{Inv, inv_open, shut_inv}
 use Rattle.store.proofs.OpensKept.{open_call_inv, no_tick_inv}
 use Rattle.store.proofs.SeatsKept.{admit_inv, notice_inv, take_inv, return_inv}
 use Rattle.store.proofs.SavesKept.{stored_inv, no_store_inv}
@@ -34,15 +34,11 @@ module _ {C H : Type 0} {means : C → Meaning} where
   module _ (h : History) (s : Standing means H) (inv : Inv h s) where
     sound_by : (o : Bool) → s.is_open ≡ o → Sound s
     sound_by true is = open_sound s is (inv_open h s is inv).sound
-    sound_by false is = subst (λ o. MatchBool o (OpenSound s) (Unit {0})) (sym is) tt
+    sound_by false is = search rules
 
     promised_by : (o : Bool) → s.is_open ≡ o → Promised s.chip h (view_of s)
-    promised_by true is =
-        let here = inv_open h s is inv in
-        let at = here.sound.at in
-        follows_promised s.ledger.frame s.chip h (λ i. seat_of (books_of s.ledger) i) (view_of s) (some_pages s) here.follows (λ i. (refl, refl))
-        (sym at.blocks) (sym at.per_block) (sym at.page_size)
-    promised_by false is = shut_promised s.chip h (view_of s) (inv_shut h s is inv)
+    promised_by true is = grind (arith, common_steps, follows_promised)
+    promised_by false is = grind (arith, common_steps, shut_promised)
 
   pub run_sound : {h : History} {s : Standing means H} → Run h s → Sound s
   run_sound {h} {s} run = sound_by h s (run_inv run) s.is_open refl

@@ -1,12 +1,12 @@
 -- A read, over plain values. Assumes nothing.
-use Rattle.std.proofs.Common.{◌≡◌, ℕ, ◌<◌, Bool, true, cond, ltb, leb, List, length, Some, Ok, Err, Option, Result, sym, refl, ap, ◌∙◌, subst, inl, inr, arith}
+use Rattle.std.proofs.Common.{◌≡◌, ℕ, ◌<◌, Bool, true, cond, ltb, leb, List, length, Some, Ok, Err, Option, Result, sym, refl, ap, ◌∙◌, subst, arith, rules}
 use Rattle.std.proofs.lemmas.List.{get_or_default}
-use Rattle.std.proofs.lemmas.Bool.{cases_lt, cond-true, cond-false, lt-ltb, le-leb, lt-leb}
+use Rattle.std.proofs.lemmas.Bool.{cond-true, lt-ltb}
 use Rattle.chip.specs.declared.words.Refusal.{Refusal as ChipRefusal}
 use Rattle.chip.specs.declared.words.Refusal.TheVariants.{NotThere, TooLong}
 use Rattle.chip.specs.Meaning.{free, spoiled, written, Meaning, page_at}
-use Rattle.chip.specs.Calls.{data_of, fetched_page, fetched}
-use Rattle.ledger.specs.declared.refusal.Refusal.TheVariants.{NotOpen, NoSuchNumber, BufferTooShort}
+use Rattle.chip.specs.Calls.{fetched_page, fetched}
+use Rattle.ledger.specs.declared.refusal.Refusal.TheVariants.{BufferTooShort}
 use Rattle.ledger.specs.Books.{Books}
 use Rattle.ledger.specs.Of.{books_of}
 use Rattle.pages.specs.declared.tables.Tables.{Tables}
@@ -35,20 +35,11 @@ read_page m t n q room r tied named told =
     }
 
 read_err : (m : Meaning) (q room : ℕ) (e : ChipRefusal) → ReadPage m q room (Err e) → Err BufferTooShort ≡ read_from (stored_at m (Some q)) room
-read_err m q room f p =
-    let d = p.bytes in
-    let e : data_of (page_at m q) ≡ d = ap data_of p.is in
-    elim (cases_lt room (length d)) [
-      | inl past ↦ sym (ap (λ x. read_from (Some x) room) e ∙ cond-false (leb (length d) room) (Ok (length d)) (Err BufferTooShort) (lt-leb (length d) room past))
-      | inr fits ↦ (let c : ◌≡◌ {A = Result (ℕ × ℕ) ChipRefusal} (Err f) (Ok (p.label, length d)) = p.told ∙ cond-true (leb (length d) room) (Ok (p.label, length d)) (Err TooLong) (le-leb (length d) room fits) in
-          let z : ◌≡◌ {A = ℕ} 0 1 = cc in absurd (omega arith))
-    ]
+read_err m q room f p = search rules
 
 -- an open store in whose range the number lies answers by what is stored
 in_range : (is_open : Bool) (b : Books) (n room : ℕ) (stored : Option (List ℕ)) → is_open ≡ true → n < b.frame.numbers → read_told is_open b n stored room ≡ read_from stored room
-in_range is_open b n room stored is known =
-    cond-true is_open (cond (ltb n b.frame.numbers) (read_from stored room) (Err NoSuchNumber)) (Err NotOpen) is
-    ∙ cond-true (ltb n b.frame.numbers) (read_from stored room) (Err NoSuchNumber) (lt-ltb n b.frame.numbers known)
+in_range is_open b n room stored is known = search rules
 
 module _ {C H : Type 0} {means : C → Meaning} (s t : Standing means H) (n : ℕ) (before after : List ℕ) where
   -- a fetch from the page that the map names is refused only where the buffer is too short

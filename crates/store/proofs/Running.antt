@@ -1,5 +1,6 @@
 -- One run of a seat, as a step of a tick.
-use Rattle.std.proofs.Common.{◌≡◌, ℕ, ◌+◌, ◌-◌, ◌*◌, ◌^◌, ◌<◌, ◌≤◌, true, ◌∷◌, length, sym, refl, ap, ◌∙◌, subst, arith}
+use Rattle.std.proofs.lemmas.Grind.{common_steps}
+use Rattle.std.proofs.Common.{◌≡◌, ℕ, ◌+◌, ◌-◌, ◌*◌, ◌^◌, ◌<◌, ◌≤◌, true, ◌∷◌, length, sym, refl, ap, ◌∙◌, subst, arith, rules}
 use Rattle.chip.specs.Meaning.{Meaning}
 use Rattle.chip.specs.Calls.{wiped}
 use Rattle.ledger.specs.declared.ledger.Ledger.{Ledger}
@@ -28,7 +29,7 @@ use Rattle.store.specs.Walking.{Few, one_run, one_recycle, CanRun, Ran}
 use Rattle.store.proofs.Collecting.{same_per, same_blocks, can_recycle, sound_ran, sound_recycled}
 
 pub small_counts : (n : ℕ) (k : Ticked) (m : Meaning) → Few n k m → n < 8192 → (k.runs + 1 < 2 ^ 32) × (k.recycles + 1 < 2 ^ 32)
-small_counts n k m few little = (omega (arith, few.runs, little), omega (arith, few.recycles, little))
+small_counts n k m few little = search rules
 
 -- a recycle, as the history of a tick tells it
 recycle_told : (m : Meaning) (b : Books) (t : Tables) (s : SoundAt m b t) (copies tries : ℕ) (n : Meaning) (u : Tables) (r : Recycled m t b.frame.alpha copies tries n u) (h : History)
@@ -103,19 +104,14 @@ module _ {C H : Type 0} {means : C → Meaning} (n i : ℕ) (k : Ticked) (s : St
       owed = subst (λ c. 0 < owes c i) (sym paid) can.owing
 
       books_recycled : books_of l ≡ ran_once (paid_for (d.tries - d.copies) (books_of s.ledger)) i
-      books_recycled = made ∙ made_one_is (books_of between) i (fair_of between) owed ∙ ap (λ c. ran_once c i) paid
+      books_recycled = search rules
 
       -- few pages of a block are live
       few_copies : d.copies ≤ 32
-      few_copies =
-          let kinds = kinds_sum (maps_of s.tables) (page_in s.chip.pages) (r.block * per_block s.tables) (per_block s.tables) in
-          omega (arith, kinds, r.copied, s.tables.geometry.sized.3)
+      few_copies = grind (arith, common_steps, kinds_sum)
 
       pub small_recycle : (k.copies + d.copies < 2 ^ 32) × (k.tries + d.tries < 2 ^ 32)
-      small_recycle = (
-        omega (arith, can.few.copies, few_copies, can.little),
-        omega (arith, can.few.copies, can.few.tries, few_copies, r.failed, can.little),
-      )
+      small_recycle = grind (arith, common_steps, few_copies)
 
       pub ran_recycled : Ran n i k s (one_recycle k d) (record { chip = means chip; of = chip; is = refl; chooser = chooser; is_open = s.is_open; ledger = l; tables = tables })
       ran_recycled =

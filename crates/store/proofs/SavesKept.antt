@@ -3,11 +3,10 @@ use Rattle.chip.specs.Meaning.{Meaning}
 use Rattle.std.proofs.Common.{◌≡◌, ℕ, ◌<◌, ◌≤◌, Bool, true, false, cond, ltb, leb, List, ◌∷◌, length, Some, None, Ok, Err, Option, sym, refl, ap, ◌∙◌, subst, arith}
 use Rattle.std.proofs.lemmas.Bool.{ltb-true, ltb-false, leb-true, leb-false, cond-false}
 use Rattle.ledger.specs.declared.refusal.Refusal.{Refusal}
-use Rattle.ledger.specs.declared.refusal.Refusal.TheVariants.{NotOpen, NoSuchNumber, DataTooLong}
+use Rattle.ledger.specs.declared.refusal.Refusal.TheVariants.{NoSuchNumber, DataTooLong}
 use Rattle.ledger.specs.Books.{Books, seat_of, ask, asks_return, returned}
 use Rattle.ledger.specs.Of.{books_of}
 use Rattle.ledger.specs.Refusals.{number}
-use Rattle.ledger.proofs.Answered.{asked}
 use Rattle.history.specs.History.{hands_back, save, stored, did, refused, History}
 use Rattle.history.specs.Moves.{Step}
 use Rattle.history.specs.Promise.{OutOfRange}
@@ -19,9 +18,8 @@ use Rattle.store.specs.State.{Standing}
 use Rattle.store.specs.State.{Sound}
 use Rattle.store.specs.Effects.{and_then, asks_save, SameButBooks, Stored, Saves}
 use Rattle.store.specs.Calls.{entry_save}
-use Rattle.store.proofs.Booking.{sound_open, open_sound}
-use Rattle.store.proofs.Invariant.{Inv, OpenInv, inv_open, open_inv, shut_call, call_open, eight_seats}
-use Rattle.store.proofs.OpensKept.{no_question}
+use Rattle.store.proofs.Booking.{sound_open}
+use Rattle.store.proofs.Invariant.{Inv, OpenInv, inv_open, open_inv, call_open, eight_seats}
 
 -- what a save has to bring
 abbrev brings : Books → ℕ → ℕ → Option Refusal
@@ -32,43 +30,21 @@ pub record Savable (b : Books) (i n size : ℕ) : Type 0 where
   pub known : n < b.frame.numbers
   pub fits : size ≤ b.frame.page_size
 
-then_none : (p q : Option Refusal) → and_then p q ≡ None → (p ≡ None) × (q ≡ None)
-then_none None q is = (refl, is)
-then_none (Some e) q is = let z : ◌≡◌ {A = ℕ} 0 1 = cc in absurd (omega arith)
-
 pub savable : (o : Bool) (b : Books) (i n size : ℕ) → asks_save o b i n size ≡ None → (o ≡ true) × Savable b i n size
-savable o b i n size none =
-    let x = asked o NotOpen _ none in
-    let y = then_none (asks_return b i) (brings b n size) x.1 in
-    let z = asked (ltb n b.frame.numbers) NoSuchNumber _ y.1 in
-    let w = asked (leb size b.frame.page_size) DataTooLong None z.1 in
-    (x.0, record { permit = y.0; known = ltb-true _ _ z.0; fits = leb-true _ _ w.0 })
+savable o b i n size none = search rules
 
 -- a save with a permit that is refused
 pub record Back (b : Books) (n : ℕ) (d : List ℕ) (e : Refusal) : Type 0 where
   pub back : hands_back (number e) ≡ true
   pub outside : OutOfRange b.frame n d (number e)
 
-long_back : (b : Books) (n : ℕ) (d : List ℕ) → b.frame.page_size < length d → Back b n d DataTooLong
-long_back b n d long = record { back = refl; outside = ((λ (x : ◌≡◌ {A = ℕ} 18 17). absurd (omega arith)), (λ x. long)) }
-
-past_back : (b : Books) (n : ℕ) (d : List ℕ) → b.frame.numbers ≤ n → Back b n d NoSuchNumber
-past_back b n d past = record { back = refl; outside = ((λ x. past), (λ (x : ◌≡◌ {A = ℕ} 17 18). absurd (omega arith))) }
-
-too_long : (b : Books) (n : ℕ) (d : List ℕ) (e : Refusal) (t : Bool) → leb (length d) b.frame.page_size ≡ t → ask t DataTooLong None ≡ Some e → Back b n d e
-too_long b n d e true is some = no_question e (Back b n d e) some
-too_long b n d e false is some = let why : DataTooLong ≡ e = cc in subst (Back b n d) why (long_back b n d (leb-false _ _ is))
-
 sent_back : (b : Books) (n : ℕ) (d : List ℕ) (e : Refusal) (t : Bool) → ltb n b.frame.numbers ≡ t → ask t NoSuchNumber (ask (leb (length d) b.frame.page_size) DataTooLong None) ≡ Some e → Back b n d e
-sent_back b n d e true is some = too_long b n d e (leb (length d) b.frame.page_size) refl some
-sent_back b n d e false is some = let why : NoSuchNumber ≡ e = cc in subst (Back b n d) why (past_back b n d (ltb-false _ _ is))
+sent_back b n d e true is some = search rules
+sent_back b n d e false is some = search rules
 
 -- a refusal that hands nothing back says nothing of number and length
 not_for_range : (b : Books) (n : ℕ) (d : List ℕ) (e : Refusal) → hands_back (number e) ≡ false → OutOfRange b.frame n d (number e)
-not_for_range b n d e keeps = (
-  (λ is. let z : true ≡ false = sym (ap hands_back is) ∙ keeps in let y : ◌≡◌ {A = ℕ} 0 1 = cc in absurd (omega arith)),
-  (λ is. let z : true ≡ false = sym (ap hands_back is) ∙ keeps in let y : ◌≡◌ {A = ℕ} 0 1 = cc in absurd (omega arith)),
-)
+not_for_range b n d e keeps = search rules
 
 module _ {C H : Type 0} {means : C → Meaning} (s t : Standing means H) (i n : ℕ) (d : List ℕ) where
   pub stored_inv : (h h' : History) (tries : ℕ) → asks_save s.is_open (books_of s.ledger) i n (length d) ≡ None → Stored s i n d tries h h' t
@@ -110,12 +86,8 @@ module _ {C H : Type 0} {means : C → Meaning} (s t : Standing means H) (i n : 
     unsaved_either : (o : Bool) → s.is_open ≡ o → asks_save o (books_of s.ledger) i n (length d) ≡ Some e
         → books_of t.ledger ≡ cond (hands_back (number e)) (returned (books_of s.ledger) i) (books_of s.ledger) → (Sound s → Sound t)
         → Inv h s → Inv (refused (save i n d) (number e) ∷ h) t
-    unsaved_either true is some books sound inv =
-        let here = inv_open h s is inv in
-        unsaved (asks_return (books_of s.ledger) i) refl some is books (sound (open_sound s is here.sound)) here
-    unsaved_either false is some books sound inv =
-        let why : NotOpen ≡ e = cc in
-        shut_call h s t (refused (save i n d) (number e)) is rest (sym (ap number why)) inv
+    unsaved_either true is some books sound inv = grind (arith, common_steps, unsaved)
+    unsaved_either false is some books sound inv = search rules
 
   pub no_store_inv : (h : History) (e : Refusal) → Saves s i n d (Err e) t → Inv h s → Inv (entry_save i n d (Err e) ∷ h) t
-  no_store_inv h e x inv = unsaved_either h e x.1 s.is_open refl x.0 x.2 x.3 inv
+  no_store_inv h e x inv = grind (arith, common_steps, unsaved_either)

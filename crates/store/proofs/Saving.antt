@@ -1,16 +1,13 @@
 -- A save, over plain values. Assumes nothing.
-use Rattle.std.proofs.Common.{◌≡◌, ℕ, ◌+◌, ◌-◌, ◌*◌, ◌<◌, ◌≤◌, Bool, true, ltb, leb, List, [], length, Some, None, Ok, Err, Option, Result, sym, refl, ap, ◌∙◌, subst, arith}
+use Rattle.std.proofs.Common.{◌≡◌, ℕ, ◌+◌, ◌-◌, ◌<◌, ◌≤◌, Bool, true, List, [], length, Some, None, Ok, Option, Result, sym, refl, ap, ◌∙◌, subst, arith, rules}
 use native.Mathlib.Decide.{ℕ_discrete}
-use Rattle.std.proofs.lemmas.Bool.{ltb-true, leb-true}
 use Rattle.chip.specs.Meaning.{Meaning}
 use Rattle.ledger.specs.declared.ledger.Ledger.{Ledger}
 use Rattle.ledger.specs.declared.refusal.Refusal.{Refusal}
-use Rattle.ledger.specs.declared.refusal.Refusal.TheVariants.{NotOpen, NoSuchNumber, DataTooLong}
 use Rattle.ledger.specs.Books.{Books, answer, unless, asks_return, spent}
 use Rattle.ledger.specs.Fair.{FairBooks}
 use Rattle.ledger.specs.Of.{books_of}
 use Rattle.ledger.specs.Settled.{Settled}
-use Rattle.ledger.proofs.Answered.{asked}
 use Rattle.ledger.proofs.Facts.{fair_of}
 use Rattle.ledger.proofs.Settles.{spent_settled}
 use Rattle.ledger.proofs.Tokens.{tokens_spent}
@@ -25,16 +22,10 @@ use Rattle.pages.specs.Write.{CanWrite, Wrote}
 use Rattle.pages.specs.Recycle.{all_free}
 use Rattle.store.specs.declared.open.Open.{Open}
 use Rattle.store.specs.State.{Standing, standing, paid_for, SoundAt, OpenSound, Sound}
-use Rattle.store.specs.Effects.{asks_page, asks_save, and_then, if_open, Saves}
+use Rattle.store.specs.Effects.{asks_page, asks_save, Saves}
 use Rattle.store.proofs.Booking.{sound_open, opened_sound, from_open, open_sound}
 
--- ---- what the spare account pays
-
 -- ---- what the questions say
-
-then_none : (o rest : Option Refusal) → and_then o rest ≡ None → (o ≡ None) × (rest ≡ None)
-then_none None rest none = (refl, none)
-then_none (Some e) rest none = (let z : ◌≡◌ {A = ℕ} 0 1 = cc in absurd (omega arith))
 
 pub record Granted (is_open : Bool) (b : Books) (i n size : ℕ) : Type 0 where
   pub is : is_open ≡ true
@@ -43,12 +34,7 @@ pub record Granted (is_open : Bool) (b : Books) (i n size : ℕ) : Type 0 where
   pub fits : size ≤ b.frame.page_size
 
 pub save_granted : (is_open : Bool) (b : Books) (i n size : ℕ) → asks_save is_open b i n size ≡ None → Granted is_open b i n size
-save_granted is_open b i n size none =
-    let first = asked is_open NotOpen _ none in
-    let both = then_none (asks_return b i) (asks_page b n size) first.1 in
-    let third = asked (ltb n b.frame.numbers) NoSuchNumber _ both.1 in
-    let fourth = asked (leb size b.frame.page_size) DataTooLong None third.1 in
-    record { is = first.0; out = both.0; known = ltb-true _ _ third.0; fits = leb-true _ _ fourth.0 }
+save_granted is_open b i n size none = search rules
 
 -- ---- the write is possible
 
@@ -75,7 +61,7 @@ module _ (m m' : Meaning) (b : Books) (t t' : Tables) (i n tries : ℕ) (d : Lis
   tried = let w = (written []).1 in omega (arith, w.made)
 
   same_length : length m'.pages ≡ length m.pages
-  same_length = wrote.tied.sized.long ∙ ap (λ g. g.blocks * g.pages_per_block) wrote.geometry ∙ sym at.tied.sized.long
+  same_length = search rules
 
   fewer : all_free m' + tries ≡ all_free m
   fewer =
@@ -167,9 +153,7 @@ module _ {C H : Type 0} {means : C → Meaning} (s : Standing means H) (i n : �
   -- nothing is refused
   pub asked_all : (x y : Unit {0}) → ◌≡◌ {A = Result (Unit {0}) Refusal} (Ok x) (answer (asks_return (books_of s.ledger) i) tt)
       → ◌≡◌ {A = Result (Unit {0}) Refusal} (Ok y) (answer (asks_page (books_of s.ledger) n (length d)) tt) → asks_save s.is_open (books_of s.ledger) i n (length d) ≡ None
-  asked_all x y out told =
-      let b = books_of s.ledger in
-      ap (λ o. if_open o (and_then (asks_return b i) (asks_page b n (length d)))) is ∙ ap (λ q. and_then q (asks_page b n (length d))) (none_by (asks_return b i) x out) ∙ none_by (asks_page b n (length d)) y told
+  asked_all x y out told = search rules
 
 -- a whole save of an open store: seat, number and length were found good
 module _ {C H : Type 0} (means : C → Meaning) (k : C) (c : H) {was : Option Open} {o : Open} (is : was ≡ Some o) (sound : Sound (standing means k c was)) (i n : ℕ) (d : List ℕ) {x y : Unit {0}}

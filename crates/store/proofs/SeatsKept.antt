@@ -7,8 +7,6 @@ use Rattle.ledger.specs.declared.refusal.Refusal.{Refusal}
 use Rattle.ledger.specs.Books.{Books, asks_admit, asks_notice, asks_take, asks_return, admitted, noticed, taken, returned}
 use Rattle.ledger.specs.Of.{books_of}
 use Rattle.ledger.specs.Refusals.{number}
-use Rattle.ledger.proofs.Admits.{planned_ranged}
-use Rattle.ledger.proofs.Answered.{admit_granted}
 use Rattle.history.specs.History.{History}
 use Rattle.history.proofs.Asked.{granted_step, take_refused_step, noticed_step, notice_refused_step, handed_back_step, return_refused_step, admitted_step}
 use Rattle.store.specs.State.{Standing}
@@ -19,11 +17,7 @@ use Rattle.store.proofs.Invariant.{Inv, eight_seats, booked_inv}
 
 -- an accepted admission is of the plan that the job has
 plan_is : (b : Books) (i p w : ℕ) → asks_admit b i p w ≡ None → planned b.frame.alpha p w ≡ Some (plan_of b.frame.alpha p w)
-plan_is b i p w none =
-    let told = admit_granted b i p w none in
-    let is = told.2.1 in
-    let same = (planned_ranged b.frame.alpha p w told.2.0 is).is in
-    cc
+plan_is b i p w none = search rules
 
 module _ {C H : Type 0} {means : C → Meaning} (h : History) (s t : Standing means H) (i : ℕ) where
   pub take_inv : (r : Result Permit Refusal) → Takes s i r t → Inv h s → Inv (entry_take i r ∷ h) t

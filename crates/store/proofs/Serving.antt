@@ -1,33 +1,27 @@
 -- The runs of one seat, and the seats of a tick.
-use Rattle.std.proofs.Common.{◌≡◌, ℕ, ◌+◌, ◌-◌, ◌*◌, ◌<◌, ◌≤◌, true, false, ◌&&◌, ltb, sym, refl, ap, ◌∙◌, subst, inl, inr, arith}
-use Rattle.std.proofs.lemmas.Bool.{cases_Bool, cond-true, cond-false}
+use Rattle.std.proofs.lemmas.Grind.{common_steps}
+use Rattle.std.proofs.Common.{◌≡◌, ℕ, ◌+◌, ◌*◌, ◌<◌, ◌≤◌, true, false, sym, refl, ap, ◌∙◌, subst, arith, rules}
 use Rattle.chip.specs.Meaning.{Meaning}
 use Rattle.ledger.specs.declared.ledger.Ledger.{Ledger}
-use Rattle.ledger.specs.Books.{Books, seat_of, used_seat, entered, ended}
+use Rattle.ledger.specs.Books.{Books, used_seat, entered, ended}
 use Rattle.ledger.specs.Of.{books_of}
 use Rattle.ledger.specs.Steps.{stepped, owes}
 use Rattle.ledger.specs.Settled.{Settled, SettledBut}
 use Rattle.ledger.specs.Seats.{due}
-use Rattle.ledger.proofs.Answered.{used_parts}
 use Rattle.ledger.proofs.Facts.{fair_of}
 use Rattle.ledger.proofs.Jobs.{due_within}
 use Rattle.ledger.proofs.Kept.{step_keeps, end_keeps, end_settles}
 use Rattle.ledger.proofs.Settles.{stepped_is, entered_settled}
-use Rattle.pages.specs.Write.{SameSize}
 use Rattle.store.specs.State.{Standing}
 use Rattle.store.specs.declared.ticked.Ticked.{Ticked}
 use Rattle.store.specs.State.{SoundAt}
 use Rattle.store.specs.Tick.{Walk, unused, enters, ends}
 use Rattle.store.specs.Effects.{desk_of}
 use Rattle.store.proofs.Booking.{sound_at}
-use Rattle.store.specs.Walking.{Few, Between, CanRun, Ran, CanServe, Served, Begun, Midway, Walked}
+use Rattle.store.specs.Walking.{Few, CanRun, Ran, CanServe, Served, Begun, Midway, Walked}
 
 pub few_more : (n p : ℕ) (k : Ticked) (m : Meaning) → n ≤ p → Few n k m → Few p k m
-few_more n p k m more few =
-    record { runs = omega (arith, few.runs); recycles = omega (arith, few.recycles); copies = omega (arith, few.copies); tries = few.tries }
-
-same_size_on : (m n o : Meaning) → SameSize m n → SameSize n o → SameSize m o
-same_size_on m n o a b = record { blocks = b.blocks ∙ a.blocks; per_block = b.per_block ∙ a.per_block; page_size = b.page_size ∙ a.page_size }
+few_more n p k m more few = search rules
 
 module _ {C H : Type 0} {means : C → Meaning} where
   between_on : (n p : ℕ) (k l j : Ticked) (s t u : Standing means H) → Between n k s l t → Between p l t j u → Between p k s j u
@@ -44,14 +38,7 @@ module _ {C H : Type 0} {means : C → Meaning} where
 
   module _ (n i due done : ℕ) (k : Ticked) (s : Standing means H) (g : Begun n i k s due) (l : Ticked) (t : Standing means H) (y : Midway n i k s done l t) (more : done < due) where
     pub midway_can : CanRun (n + done) i l t
-    midway_can =
-        record {
-          sound = y.between.sound;
-          few = y.between.few;
-          little = omega (arith, g.little, g.some, more);
-          owing = omega (arith, y.owing, g.owing, more);
-          but = y.but;
-        }
+    midway_can = search rules
 
     pub midway_more : (j : Ticked) (u : Standing means H) → Ran (n + done) i l t j u → Midway n i k s (done + 1) j u
     midway_more j u r =
@@ -113,7 +100,7 @@ module _ {C H : Type 0} {means : C → Meaning} where
 
   module _ (k : Ticked) (s : Standing means H) (done : ℕ) (l : Ticked) (t : Standing means H) (y : Walked k s done l t) (more : done < 8) where
     pub walked_can : CanServe (1024 * done) done l t
-    walked_can = record { sound = y.between.sound; few = y.between.few; little = omega arith; seat = more; settled = y.settled }
+    walked_can = search rules
 
     pub walked_more : (j : Ticked) (u : Standing means H) → Served (1024 * done) done l t j u → Walked k s (done + 1) j u
     walked_more j u r =
@@ -133,12 +120,7 @@ module _ {C H : Type 0} {means : C → Meaning} (n i : ℕ) (k : Ticked) (s : St
   entered_so = step ∙ stepped_is (books_of s.ledger) i can.settled used
 
   few_due : owes (books_of e) i ≤ 1024
-  few_due =
-      elim (cases_Bool (used_seat (books_of e) i)) [
-        | inl there ↦ (let p = used_parts (books_of e) i there in let j = ((fair_of e).each i p.0).used p.1 in let w = due_within j in
-            let o = cond-true (used_seat (books_of e) i) (due (seat_of (books_of e) i) - (seat_of (books_of e) i).runs) 0 there in omega (arith, o, w, j.runs_few))
-        | inr none ↦ (let o = cond-false (used_seat (books_of e) i) (due (seat_of (books_of e) i) - (seat_of (books_of e) i).runs) 0 none in omega (arith, o))
-      ]
+  few_due = grind (arith, common_steps, fair_of, due_within)
 
   pub begun_so : (owed : ℕ) → owed ≡ owes (books_of e) i → Begun {means = means} n i k (record { chip = s.chip; of = s.of; is = s.is; chooser = s.chooser; is_open = s.is_open; ledger = e; tables = s.tables }) owed
   begun_so owed is =
@@ -154,6 +136,4 @@ module _ {C H : Type 0} {means : C → Meaning} (n i : ℕ) (k : Ticked) (s : St
 
 -- nothing happens to an empty seat
 pub stepped_unused : (b : Books) (i : ℕ) → used_seat b i ≡ false → stepped b i ≡ b
-stepped_unused b i none =
-    cond-false (used_seat b i && ltb (seat_of b i).elapsed (seat_of b i).plan.meta_period) (entered b i) b
-    (ap (λ x. x && ltb (seat_of b i).elapsed (seat_of b i).plan.meta_period) none)
+stepped_unused b i none = search rules

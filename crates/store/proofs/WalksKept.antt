@@ -3,9 +3,9 @@
 -- Between       the walk stands between two seats: it has passed those before, and made the runs that they owed
 -- Inside        it is at a seat, whose clock has moved and of whose runs so many are made
 -- Reached       that, with the history so far
-use Rattle.std.proofs.Common.{◌≡◌, ℕ, zero, suc, ◌+◌, ◌-◌, ◌<◌, ◌≤◌, Bool, true, false, ltb, List, [], ◌∷◌, length, get_or, set, Option, sym, refl, ap, ◌∙◌, subst, inl, inr, le_of_suc-le-suc, not-suc-le-zero, add-one, arith}
-use Rattle.std.proofs.lemmas.List.{get_or_past}
-use Rattle.std.proofs.lemmas.Bool.{and_cases, and_from, lt-ltb, ltb-false, cond-true, cond-false}
+use Rattle.std.proofs.lemmas.Grind.{common_steps}
+use Rattle.std.proofs.Common.{◌≡◌, ℕ, zero, suc, ◌+◌, ◌-◌, ◌<◌, ◌≤◌, Bool, true, false, ltb, List, [], ◌∷◌, length, get_or, set, Option, sym, refl, ap, ◌∙◌, subst, le_of_suc-le-suc, not-suc-le-zero, add-one, arith, rules}
+use Rattle.std.proofs.lemmas.Bool.{and_from, lt-ltb, cond-true, cond-false}
 use Rattle.chip.specs.Meaning.{Page}
 use Rattle.ledger.specs.declared.frame.Frame.{Frame}
 use Rattle.ledger.specs.declared.seat.Seat.{Seat}
@@ -14,7 +14,7 @@ use Rattle.ledger.specs.Books.{Books, seat_of, used_seat, entered, ran_once, end
 use Rattle.ledger.specs.Steps.{owes}
 use Rattle.ledger.specs.Walk.{walked}
 use Rattle.ledger.proofs.Answered.{used_parts}
-use Rattle.ledger.proofs.Walk.{passed_unused, walked_none, walked_length, walked_next, walked_more, none_yet, seat_after_runs, one_run_on, tick_ends}
+use Rattle.ledger.proofs.Walk.{walked_none, walked_length, walked_next, walked_more, none_yet, seat_after_runs, one_run_on, tick_ends}
 use Rattle.history.specs.History.{erased, History, sum_first}
 use Rattle.history.specs.Moves.{runs_due}
 use Rattle.history.specs.Follows.{WithinTick}
@@ -28,8 +28,7 @@ use Rattle.store.specs.Tick.{Desk, Recycle, Walk, begun, unused, enters, runs_fr
 skipped : (α n : ℕ) (xs : List Seat) → in_use (get_or xs n nobody) ≡ false → walked α (suc n) xs ≡ walked α n xs
 skipped α zero [] empty = refl
 skipped α (suc n) [] empty = refl
-skipped α zero (x ∷ xs) empty =
-    ap (λ (y : Seat). y ∷ walked α 0 xs) (passed_unused α x empty) ∙ ap (λ (ys : List Seat). x ∷ ys) (walked_none α xs)
+skipped α zero (x ∷ xs) empty = search rules
 skipped α (suc n) (x ∷ xs) empty = ap (λ (ys : List Seat). passed α x ∷ ys) (skipped α n xs empty)
 
 -- a walk over all seats has passed each
@@ -45,11 +44,7 @@ sum_more n g = ap (λ (m : ℕ). sum_first m g) (add-one n)
 
 -- a seat that is none of the eight is nobody's
 unused_seat : (b : Books) (i : ℕ) → length b.seats ≡ 8 → used_seat b i ≡ false → in_use (seat_of b i) ≡ false
-unused_seat b i eight q =
-    elim (and_cases (ltb i 8) (in_use (seat_of b i)) q) [
-      | inl past ↦ (let far = ltb-false i 8 past in ap in_use (get_or_past b.seats i nobody (omega arith)))
-      | inr empty ↦ empty
-    ]
+unused_seat b i eight q = grind (arith, common_steps)
 
 module _ (b₀ : Books) (eight : length b₀.seats ≡ 8) where
   abbrev so_far : ℕ → List Seat

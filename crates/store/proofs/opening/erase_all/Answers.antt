@@ -1,10 +1,7 @@
-use Rattle.std.proofs.Common.{◌≡◌, subst, arith}
-use Rattle.store.proofs.Fresh.{ErasedTo, erased_all}
+use Rattle.std.proofs.lemmas.Grind.{common_steps}
+use Rattle.std.proofs.Common.{arith}
+use Rattle.store.proofs.Fresh.{erased_all}
 use Rattle.store.proofs.opening.erase_all.Goals as goal
 
 pub returns : goal.returns
-returns g c = λ same.
-    let m = g.C.Chip.means c.args.chip.now in
-    let n = g.C.Chip.means c.loop-block.chip in
-    let end : c.loop-block.block ≡ m.blocks = omega (arith, same, c.loop-block-test.false, c.loop-block.auto.block-end) in
-    erased_all m n (g.C.Chip.shaped c.args.chip.now) (subst (λ x. ErasedTo m n x) end (c.loop-block.invariant same))
+returns g c = grind (arith, common_steps, erased_all)

@@ -33,7 +33,7 @@ pub invariant_of-geometry : goal.invariant_of-geometry
 invariant_of-geometry g c =
     let s = seen c.args.self.now in
     let told = c.in_ok-may_open.ensures ∙ ap (λ o. answer (asks_frame o c.framed-frame.result) tt) c.is_some.ensures in
-    record { sized = geometry_sized s.is_open s.chip c.shape-shape.result c.args.numbers c.args.alpha c.args.pool c.shape-shape.ensures.value (g.C.Chip.shaped c.args.self.now.chip) (may s c.args.numbers c.args.alpha c.args.pool c.framed-frame.result (c.framed-frame.ensures s.chip c.shape-shape.ensures.value) (g.C.Chip.shaped c.args.self.now.chip) c.in_ok-may_open.field-0 told) }
+    record { sized = opened_sized s c.args.numbers c.args.alpha c.args.pool c.framed-frame.result (c.framed-frame.ensures s.chip c.shape-shape.ensures.value) (g.C.Chip.shaped c.args.self.now.chip) c.in_ok-may_open.field-0 told c.shape-shape.result c.shape-shape.ensures.value }
 
 pub invariant_of-self-2 : goal.invariant_of-self-2
 invariant_of-self-2 g c =
