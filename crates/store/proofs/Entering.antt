@@ -1,5 +1,6 @@
 -- What each call adds to a history that keeps the promise: its entry, after what chip and chooser answered during it.
-use Rattle.std.proofs.Common.{ℕ, zero, suc, Bool, false, List, ◌∷◌, length, Ok, Err, Option, Result, sym, refl, subst}
+use Rattle.std.proofs.lemmas.Grind.{common_steps}
+use Rattle.std.proofs.Common.{ℕ, zero, suc, Bool, false, List, ◌∷◌, length, Ok, Err, Option, Result, sym, refl, subst, arith}
 use Rattle.chip.specs.Meaning.{Page, Meaning}
 use Rattle.plan.specs.declared.numbers.Plan.{Plan}
 use Rattle.ledger.specs.declared.frame.Frame.{Frame}

@@ -1,4 +1,5 @@
 -- An opening, over plain values. Assumes nothing.
+use Rattle.pages.specs.declared.geometry.Geometry.{Geometry}
 use Rattle.std.proofs.lemmas.Grind.{common_steps}
 use Rattle.std.proofs.Common.{◌≡◌, ℕ, ◌+◌, ◌*◌, ◌<◌, ◌≤◌, Bool, true, false, cond, length, get_or, replicate, Some, None, Ok, Err, Option, Result, sym, refl, ap, ◌∙◌, subst, inl, inr, mul-le-mul, arith, rules}
 use lib.ListN.{length-replicate, get_or-replicate}
@@ -18,7 +19,6 @@ use Rattle.ledger.proofs.Settles.{opened_settled}
 use Rattle.history.specs.Pages.{is_dead}
 use Rattle.history.proofs.Tally.{tally_none, tally_all}
 use Rattle.history.proofs.Chip.{all_free as all_are_free}
-use Rattle.pages.specs.declared.geometry.Geometry.{Geometry}
 use Rattle.pages.specs.declared.tables.Tables.{Tables}
 use Rattle.pages.specs.Tied.{maps_of, page_in, Tied}
 use Rattle.pages.specs.Recycle.{all_free}
@@ -139,7 +139,7 @@ fresh_tables m x g t is blocks per_block map dead unused start geometry =
 -- ---- the whole
 
 module _ {C H : Type 0} {means : C → Meaning} (s : Standing means H) (numbers alpha pool : ℕ) (none : asks_open s.is_open s.chip numbers alpha pool ≡ None) where
-  pub opens_on : (t : Standing means H) → t.chip ≡ blank s.chip → t.chooser ≡ s.chooser → t.is_open ≡ true
+  opens_on : (t : Standing means H) → t.chip ≡ blank s.chip → t.chooser ≡ s.chooser → t.is_open ≡ true
       → books_of t.ledger ≡ opened_books (frame_for s.chip numbers alpha pool) → FreshTables s.chip t.tables → Opens s numbers alpha pool (Ok tt) t
   opens_on t chip chooser is books fresh =
       let m = s.chip in
@@ -154,8 +154,8 @@ module _ {C H : Type 0} {means : C → Meaning} (s : Standing means H) (numbers 
       )
 
 module _ {C H : Type 0} {means : C → Meaning} (s : Standing means H) (numbers alpha pool : ℕ) (f : Frame) (is : f ≡ frame_for s.chip numbers alpha pool) where
-  pub asked_open : (x : Unit {0}) → ◌≡◌ {A = Result (Unit {0}) Refusal} (Ok x) (answer (asks_frame s.is_open f) tt) → asks_open s.is_open s.chip numbers alpha pool ≡ None
-  asked_open x told = ap (asks_frame s.is_open) (sym is) ∙ none_by (asks_frame s.is_open f) x told
+  asked_open : (x : Unit {0}) → ◌≡◌ {A = Result (Unit {0}) Refusal} (Ok x) (answer (asks_frame s.is_open f) tt) → asks_open s.is_open s.chip numbers alpha pool ≡ None
+  asked_open x told = search rules
 
   pub not_opened : (t : Standing means H) (e : Refusal) → ◌≡◌ {A = Result (Unit {0}) Refusal} (Err e) (answer (asks_frame s.is_open f) tt) → t.chip ≡ s.chip → t.chooser ≡ s.chooser
       → t.is_open ≡ s.is_open → t.ledger ≡ s.ledger → t.tables ≡ s.tables → Opens s numbers alpha pool (Err e) t
@@ -172,7 +172,7 @@ module _ {C H : Type 0} {means : C → Meaning} (s : Standing means H) (numbers 
     frame_opened l said = search rules
 
     -- a store with these parts was opened
-    pub opened_with : (t : Standing H) (l : Ledger) → option_map books_of (Some l) ≡ cond (stands f) (Some (opened_books f)) None
+    pub opened_with : (t : Standing means H) (l : Ledger) → option_map books_of (Some l) ≡ cond (stands f) (Some (opened_books f)) None
         → t.chip ≡ blank s.chip → t.chooser ≡ s.chooser → t.is_open ≡ true → t.ledger ≡ l → FreshTables s.chip t.tables → Opens s numbers alpha pool (Ok tt) t
     opened_with t l said chip chooser is_open ledger fresh =
         opens_on s numbers alpha pool (asked_open x told) t chip chooser is_open (ap books_of ledger ∙ frame_opened l said) fresh

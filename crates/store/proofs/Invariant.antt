@@ -11,6 +11,7 @@ use Rattle.ledger.specs.declared.refusal.Refusal.{Refusal}
 use Rattle.ledger.specs.declared.refusal.Refusal.TheVariants.{NotOpen}
 use Rattle.ledger.specs.Books.{Books, seat_of, answer, unless}
 use Rattle.ledger.specs.Of.{books_of}
+use Rattle.ledger.specs.Settled.{Settled}
 use Rattle.ledger.proofs.Facts.{fair_of}
 use Rattle.history.specs.History.{Entry, History}
 use Rattle.history.specs.Promise.{is_call, ShutEntry, ShutPromise}
@@ -21,8 +22,8 @@ use Rattle.history.specs.Follows.{Follows}
 use Rattle.history.proofs.Follows.{call_follows}
 use Rattle.pages.specs.Tied.{maps_of}
 use Rattle.store.specs.State.{Standing}
-use Rattle.store.specs.State.{OpenSound, Sound}
-use Rattle.store.specs.Effects.{if_open, ledger_asks, SameButBooks, Booked}
+use Rattle.store.specs.State.{SoundAt, OpenSound, Sound}
+use Rattle.store.specs.Effects.{if_open, ledger_asks, SameButBooks, Same, Booked}
 use Rattle.store.proofs.Booking.{sound_open, open_sound}
 
 pub record Plain (e : Entry) : Type 0 where
@@ -64,7 +65,10 @@ module _ {C H : Type 0} {means : C → Meaning} where
   -- what follows is of frame, map and pages alone
   pub follows_along : (h : History) (s t : Standing means H) → t.ledger.frame ≡ s.ledger.frame → SameButBooks s t
       → Follows s.ledger.frame h (λ i. seat_of (books_of t.ledger) i) (maps_of s.tables) s.chip.pages → FollowsFrom h t
-  follows_along h s t frame rest follows = search rules
+  follows_along h s t frame rest follows =
+      subst (λ f. Follows f h (λ i. seat_of (books_of t.ledger) i) (maps_of t.tables) t.chip.pages) (sym frame)
+      (subst (λ m. Follows s.ledger.frame h (λ i. seat_of (books_of t.ledger) i) (maps_of t.tables) m.pages) (sym rest.chip)
+      (subst (λ x. Follows s.ledger.frame h (λ i. seat_of (books_of t.ledger) i) (maps_of x) s.chip.pages) (sym rest.tables) follows))
 
   -- ---- a call that touches the ledger alone
 
@@ -83,13 +87,22 @@ module _ {C H : Type 0} {means : C → Meaning} where
               (subst (λ b. (k : ℕ) → Step s.ledger.frame k e (seat_of (books_of s.ledger) k) (seat_of b k)) (sym books) step));
         })
 
+    pub shut_call : (e : Entry) → s.is_open ≡ false → SameButBooks s t → ShutEntry e → Inv h s → Inv (e ∷ h) t
+    shut_call e is rest refused inv = shut_inv (e ∷ h) t (rest.is_open ∙ is) (refused, inv_shut h s is inv)
+
     module _ {X : Type 0} (x : X) (entry : Result X Refusal → Entry) (after : Books) (frame : after.frame ≡ s.ledger.frame) where
       booked_by : (q : Option Refusal) (r : Result X Refusal) → r ≡ answer q x → s.is_open ≡ true → SameButBooks s t → books_of t.ledger ≡ unless q after (books_of s.ledger) → Sound t
           → (q ≡ None → Plain (entry (Ok x)) × ((k : ℕ) → Step s.ledger.frame k (entry (Ok x)) (seat_of (books_of s.ledger) k) (seat_of after k)))
           → ((e : Refusal) → q ≡ Some e → Plain (entry (Err e)) × ((k : ℕ) → Step s.ledger.frame k (entry (Err e)) (seat_of (books_of s.ledger) k) (seat_of (books_of s.ledger) k)))
           → OpenInv h s → Inv (entry r ∷ h) t
-      booked_by None r told is rest books sound granted refused inv = grind (arith, common_steps, call_open)
-      booked_by (Some e) r told is rest books sound granted refused inv = grind (arith, common_steps, call_open)
+      booked_by None r told is rest books sound granted refused inv =
+          let p = granted refl in
+          subst (λ y. Inv (entry y ∷ h) t) (sym told)
+          (call_open (entry (Ok x)) after is rest books frame sound p.0.call p.0.still (p.0.answered _) (p.0.says s.ledger.frame h) p.1 inv)
+      booked_by (Some e) r told is rest books sound granted refused inv =
+          let p = refused e refl in
+          subst (λ y. Inv (entry y ∷ h) t) (sym told)
+          (call_open (entry (Err e)) (books_of s.ledger) is rest books refl sound p.0.call p.0.still (p.0.answered _) (p.0.says s.ledger.frame h) p.1 inv)
 
       booked_either : (o : Bool) → s.is_open ≡ o → (q : Option Refusal) (r : Result X Refusal) → r ≡ answer (if_open o q) x → SameButBooks s t
           → books_of t.ledger ≡ unless (if_open o q) after (books_of s.ledger) → (Sound s → Sound t)
@@ -100,7 +113,8 @@ module _ {C H : Type 0} {means : C → Meaning} where
       booked_either true is q r told rest books sound shut granted refused inv =
           let here = inv_open h s is inv in
           booked_by q r told is rest books (sound (open_sound s is here.sound)) granted refused here
-      booked_either false is q r told rest books sound shut granted refused inv = search rules
+      booked_either false is q r told rest books sound shut granted refused inv =
+          subst (λ y. Inv (entry y ∷ h) t) (sym told) (shut_call (entry (Err NotOpen)) is rest shut inv)
 
       pub booked_inv : (q : Option Refusal) (r : Result X Refusal) → r ≡ answer (ledger_asks s q) x → Booked s q after t
           → ShutEntry (entry (Err NotOpen))

@@ -1,7 +1,6 @@
 -- A whole tick.
 use Rattle.chip.specs.Meaning.{Meaning}
-use Rattle.std.proofs.Common.{◌≡◌, ℕ, true, false, [], Ok, Err, Result, sym, ◌∙◌, subst, arith}
-use Rattle.std.proofs.lemmas.Bool.{true≢false}
+use Rattle.std.proofs.Common.{◌≡◌, ℕ, true, false, [], Ok, Err, Result, ◌∙◌, subst, arith, rules}
 use Rattle.ledger.specs.declared.refusal.Refusal.{Refusal}
 use Rattle.ledger.specs.Of.{books_of}
 use Rattle.history.specs.History.{History}

@@ -1,8 +1,7 @@
 -- Every history that the calls of a store can make keeps the promise.
 use Rattle.chip.specs.Meaning.{Meaning}
-use Rattle.std.proofs.Common.{◌≡◌, Bool, true, false, [], MatchBool, sym, refl, subst}
-use Rattle.ledger.specs.Books.{seat_of}
-use Rattle.ledger.specs.Of.{books_of}
+use Rattle.std.proofs.lemmas.Grind.{common_steps}
+use Rattle.std.proofs.Common.{◌≡◌, Bool, true, false, [], refl, rules, arith}
 use Rattle.history.specs.History.{History}
 use Rattle.history.specs.Promise.{Promised}
 use Rattle.history.proofs.Follows.{follows_promised, shut_promised}

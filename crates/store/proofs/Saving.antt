@@ -140,15 +140,6 @@ module _ {C H : Type 0} {means : C → Meaning} (s t : Standing means H) (i n : 
 
 -- ---- refusals
 
--- what a refused question tells
-pub refused_by : (q : Option Refusal) (e : Refusal) → ◌≡◌ {A = Result (Unit {0}) Refusal} (Err e) (answer q tt) → q ≡ Some e
-refused_by None e told = (let z : ◌≡◌ {A = ℕ} 0 1 = cc in absurd (omega arith))
-refused_by (Some x) e told = cc
-
-pub none_by : (q : Option Refusal) (x : Unit {0}) → ◌≡◌ {A = Result (Unit {0}) Refusal} (Ok x) (answer q tt) → q ≡ None
-none_by None x told = refl
-none_by (Some e) x told = (let z : ◌≡◌ {A = ℕ} 0 1 = cc in absurd (omega arith))
-
 module _ {C H : Type 0} {means : C → Meaning} (s : Standing means H) (i n : ℕ) (d : List ℕ) (is : s.is_open ≡ true) where
   -- nothing is refused
   pub asked_all : (x y : Unit {0}) → ◌≡◌ {A = Result (Unit {0}) Refusal} (Ok x) (answer (asks_return (books_of s.ledger) i) tt)

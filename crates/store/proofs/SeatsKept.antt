@@ -1,6 +1,6 @@
 -- The calls on seats and permits keep what is true of a store and its history.
 use Rattle.chip.specs.Meaning.{Meaning}
-use Rattle.std.proofs.Common.{◌≡◌, ℕ, ◌∷◌, Some, None, Result, refl}
+use Rattle.std.proofs.Common.{◌≡◌, ℕ, ◌∷◌, Some, None, Result, refl, rules}
 use Rattle.plan.specs.declared.numbers.Plan.{Plan}
 use Rattle.plan.specs.Plan.{plan_of, planned}
 use Rattle.ledger.specs.declared.refusal.Refusal.{Refusal}

@@ -24,16 +24,6 @@ pub few_more : (n p : ℕ) (k : Ticked) (m : Meaning) → n ≤ p → Few n k m 
 few_more n p k m more few = search rules
 
 module _ {C H : Type 0} {means : C → Meaning} where
-  between_on : (n p : ℕ) (k l j : Ticked) (s t u : Standing means H) → Between n k s l t → Between p l t j u → Between p k s j u
-  between_on n p k l j s t u a b =
-      record {
-        sound = b.sound;
-        few = b.few;
-        failed = omega (arith, a.failed, b.failed);
-        sizes = same_size_on s.chip t.chip u.chip a.sizes b.sizes;
-        is_open = b.is_open ∙ a.is_open;
-      }
-
   -- ---- the runs of one seat
 
   module _ (n i due done : ℕ) (k : Ticked) (s : Standing means H) (g : Begun n i k s due) (l : Ticked) (t : Standing means H) (y : Midway n i k s done l t) (more : done < due) where
@@ -41,14 +31,7 @@ module _ {C H : Type 0} {means : C → Meaning} where
     midway_can = search rules
 
     pub midway_more : (j : Ticked) (u : Standing means H) → Ran (n + done) i l t j u → Midway n i k s (done + 1) j u
-    midway_more j u r =
-        let e : n + done + 1 ≡ n + (done + 1) = omega arith in
-        record {
-          between = subst (λ p. Between p k s j u) e (between_on (n + done) (n + done + 1) k l j s t u y.between r.between);
-          goes = λ b x h w. let v = y.goes b x h w in r.goes b x v.0 v.1;
-          owing = omega (arith, y.owing, r.owing);
-          but = r.but;
-        }
+    midway_more j u r = grind (arith, common_steps)
 
   -- ---- a seat
 
@@ -103,13 +86,7 @@ module _ {C H : Type 0} {means : C → Meaning} where
     walked_can = search rules
 
     pub walked_more : (j : Ticked) (u : Standing means H) → Served (1024 * done) done l t j u → Walked k s (done + 1) j u
-    walked_more j u r =
-        let e : 1024 * done + 1024 ≡ 1024 * (done + 1) = omega arith in
-        record {
-          between = subst (λ p. Between p k s j u) e (between_on (1024 * done) (1024 * done + 1024) k l j s t u y.between r.between);
-          goes = λ b x h w. let v = y.goes b x h w in r.goes b x v.0 v.1;
-          settled = r.settled;
-        }
+    walked_more j u r = search rules
 
 -- ---- where a seat begins
 

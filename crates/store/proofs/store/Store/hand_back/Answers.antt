@@ -1,5 +1,6 @@
-use Rattle.std.proofs.lemmas.Grind.{common_steps}
-use Rattle.std.proofs.Common.{rules, arith}
+use Rattle.std.proofs.Common.{◌≡◌, Some, refl, rules}
+use Rattle.ledger.specs.Books.{asks_return, returned}
+use Rattle.ledger.specs.Of.{books_of}
 use Rattle.store.specs.Seen.{seen}
 use Rattle.store.proofs.Booking.{ledger_sound}
 use Rattle.store.proofs.Entering.{entered_return}

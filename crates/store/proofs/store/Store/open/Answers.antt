@@ -1,14 +1,14 @@
-use Rattle.std.proofs.Common.{◌≡◌, Some, None, Ok, Err, ap, sym, refl, ◌∙◌, subst, rules}
+use Rattle.ledger.specs.Of.{books_of}
+use Rattle.std.specs.Option.{option_map}
+use Rattle.std.proofs.Common.{◌≡◌, Some, Ok, Err, ap, sym, refl, ◌∙◌, subst, rules, None}
 use Rattle.chip.specs.declared.words.Shape.{Shape}
 use Rattle.chip.specs.Meaning.{Meaning}
 use Rattle.ledger.specs.Books.{answer}
-use Rattle.std.specs.Option.{option_map}
-use Rattle.ledger.specs.Of.{books_of}
 use Rattle.store.specs.State.{standing}
 use Rattle.store.specs.Effects.{asks_frame, blank, Opens}
 use Rattle.store.specs.Seen.{seen}
 use Rattle.store.proofs.Entering.{entered_open}
-use Rattle.store.proofs.Fresh.{geometry_sized, opens_on, not_opened, asked_open, may, frame_refused, frame_opened, fresh_tables}
+use Rattle.store.proofs.Fresh.{not_opened, frame_refused, opened_with, opened_sized, fresh_tables}
 use Rattle.store.proofs.store.Store.open.Goals as goal
 
 pub returns-in_err-may_open : goal.returns-in_err-may_open
@@ -44,9 +44,8 @@ invariant_of-self-2 g c =
     let same = c.shape-shape.ensures.same in
     let t = standing g.C.Chip.means c.erase_all.new.chip s.chooser (Some (record { ledger = c.in_ok-ledger.ledger; tables = c.fresh.result })) in
     let e =
-    opens_on s c.args.numbers c.args.alpha c.args.pool (asked_open s c.args.numbers c.args.alpha c.args.pool c.framed-frame.result (c.framed-frame.ensures s.chip c.shape-shape.ensures.value) c.in_ok-may_open.field-0 told) t
-    (c.erase_all.ensures (ap (λ (x : Shape). x.blocks) value ∙ sym (ap (λ (x : Meaning). x.blocks) same)) ∙ ap blank same) refl refl
-    (frame_opened s c.args.numbers c.args.alpha c.args.pool c.framed-frame.result (c.framed-frame.ensures s.chip c.shape-shape.ensures.value) (g.C.Chip.shaped c.args.self.now.chip) c.in_ok-may_open.field-0 told c.in_ok-ledger.ledger (ap (option_map books_of) (sym made) ∙ c.opened.ensures))
+    opened_with s c.args.numbers c.args.alpha c.args.pool c.framed-frame.result (c.framed-frame.ensures s.chip value) (g.C.Chip.shaped c.args.self.now.chip) c.in_ok-may_open.field-0 told t c.in_ok-ledger.ledger (ap (option_map books_of) (sym made) ∙ c.opened.ensures)
+    (c.erase_all.ensures (ap (λ (x : Shape). x.blocks) value ∙ sym (ap (λ (x : Meaning). x.blocks) same)) ∙ ap blank same) refl refl refl
     (fresh_tables s.chip c.shape-shape.result _ c.fresh.result value refl refl c.fresh.ensures.map c.fresh.ensures.dead c.fresh.ensures.free c.fresh.ensures.start c.fresh.ensures.geometry) in
     record { sound = e.2 }
 
@@ -59,8 +58,7 @@ returns g c =
     let same = c.shape-shape.ensures.same in
     let t = standing g.C.Chip.means c.erase_all.new.chip s.chooser (Some (record { ledger = c.in_ok-ledger.ledger; tables = c.fresh.result })) in
     let e =
-    opens_on s c.args.numbers c.args.alpha c.args.pool (asked_open s c.args.numbers c.args.alpha c.args.pool c.framed-frame.result (c.framed-frame.ensures s.chip c.shape-shape.ensures.value) c.in_ok-may_open.field-0 told) t
-    (c.erase_all.ensures (ap (λ (x : Shape). x.blocks) value ∙ sym (ap (λ (x : Meaning). x.blocks) same)) ∙ ap blank same) refl refl
-    (frame_opened s c.args.numbers c.args.alpha c.args.pool c.framed-frame.result (c.framed-frame.ensures s.chip c.shape-shape.ensures.value) (g.C.Chip.shaped c.args.self.now.chip) c.in_ok-may_open.field-0 told c.in_ok-ledger.ledger (ap (option_map books_of) (sym made) ∙ c.opened.ensures))
+    opened_with s c.args.numbers c.args.alpha c.args.pool c.framed-frame.result (c.framed-frame.ensures s.chip value) (g.C.Chip.shaped c.args.self.now.chip) c.in_ok-may_open.field-0 told t c.in_ok-ledger.ledger (ap (option_map books_of) (sym made) ∙ c.opened.ensures)
+    (c.erase_all.ensures (ap (λ (x : Shape). x.blocks) value ∙ sym (ap (λ (x : Meaning). x.blocks) same)) ∙ ap blank same) refl refl refl
     (fresh_tables s.chip c.shape-shape.result _ c.fresh.result value refl refl c.fresh.ensures.map c.fresh.ensures.dead c.fresh.ensures.free c.fresh.ensures.start c.fresh.ensures.geometry) in
     record { effect = e; promise = entered_open s t c.args.numbers c.args.alpha c.args.pool (Ok tt) (λ _. e) }

@@ -1,5 +1,6 @@
-use Rattle.std.proofs.lemmas.Grind.{common_steps}
-use Rattle.std.proofs.Common.{◌≡◌, Some, Ok, Err, rules, arith}
+use Rattle.std.proofs.Common.{◌≡◌, Some, Ok, Err, refl, rules}
+use Rattle.ledger.specs.Books.{asks_return, returned}
+use Rattle.ledger.specs.Of.{books_of}
 use Rattle.store.specs.Seen.{seen}
 use Rattle.store.proofs.Booking.{ledger_sound}
 use Rattle.store.proofs.Saving.{always_written, saved, saved_sound}

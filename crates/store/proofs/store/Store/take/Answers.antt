@@ -1,5 +1,6 @@
-use Rattle.std.proofs.lemmas.Grind.{common_steps}
-use Rattle.std.proofs.Common.{Ok, rules, arith}
+use Rattle.std.proofs.Common.{◌≡◌, Some, Ok, refl, rules}
+use Rattle.ledger.specs.Books.{asks_take, taken}
+use Rattle.ledger.specs.Of.{books_of}
 use Rattle.store.specs.Seen.{seen}
 use Rattle.store.proofs.Booking.{ledger_sound}
 use Rattle.store.proofs.Entering.{entered_take}

@@ -1,5 +1,6 @@
-use Rattle.std.proofs.lemmas.Grind.{common_steps}
-use Rattle.std.proofs.Common.{rules, arith}
+use Rattle.std.proofs.Common.{◌≡◌, Some, refl, rules}
+use Rattle.store.specs.State.{standing}
+use Rattle.store.specs.Effects.{Ticks}
 use Rattle.store.specs.Seen.{seen}
 use Rattle.store.proofs.Booking.{opened_sound, from_open}
 use Rattle.store.proofs.Entering.{entered_tick}
