@@ -49,10 +49,14 @@ impl Totals {
                 tries: self.tries.saturating_add(tries),
                 ..self
             },
-            Err(_) => Totals {
-                refused: self.refused.saturating_add(1),
-                ..self
-            },
+            Err(_) => self.refused(),
+        }
+    }
+
+    fn refused(self) -> Totals {
+        Totals {
+            refused: self.refused.saturating_add(1),
+            ..self
         }
     }
 
@@ -65,10 +69,7 @@ impl Totals {
                 copy_tries: self.copy_tries.saturating_add(done.tries),
                 ..self
             },
-            Err(_) => Totals {
-                refused: self.refused.saturating_add(1),
-                ..self
-            },
+            Err(_) => self.refused(),
         }
     }
 }

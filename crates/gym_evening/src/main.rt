@@ -10,7 +10,7 @@ use chooser::Greedy;
 use evening::{Console, GUEST, RANKING, ROWER, SPLITS, TABLE, record, whole};
 use std::io;
 use store::Store;
-use told::{read_back, say};
+use told::{Deed, read_back, say};
 
 // Opens the store and admits the jobs. The third does not fit into the pool any more.
 fn begin(rt: &HostRuntime, store: &mut Console<'_>) -> io::Result<()> {
@@ -23,13 +23,23 @@ fn begin(rt: &HostRuntime, store: &mut Console<'_>) -> io::Result<()> {
 // The first splits: the second page write and the third fail, and the splits are saved all the same. A permit
 // that is handed back can be taken again; a permit beyond the plan is refused.
 fn first_splits(rt: &HostRuntime, store: &mut Console<'_>) -> io::Result<()> {
-    say(rt, "split 1", record(store, ROWER, 0, &[1, 240]))?;
-    match store.take(ROWER) {
-        Ok(permit) => say(rt, "permit handed back", store.hand_back(permit))?,
-        Err(refusal) => say(rt, "permit", Err::<(), _>(refusal))?,
-    }
-    say(rt, "split 2", record(store, ROWER, 1, &[2, 241]))?;
-    say(rt, "split 3, too early", record(store, ROWER, 0, &[3, 242]))
+    say(
+        rt,
+        "split 1",
+        record(store, ROWER, 0, &[1, 240]).map(Deed::Saved),
+    )?;
+    let handed_back = store.take(ROWER).and_then(|permit| store.hand_back(permit));
+    say(rt, "permit handed back", handed_back)?;
+    say(
+        rt,
+        "split 2",
+        record(store, ROWER, 1, &[2, 241]).map(Deed::Saved),
+    )?;
+    say(
+        rt,
+        "split 3, too early",
+        record(store, ROWER, 0, &[3, 242]).map(Deed::Saved),
+    )
 }
 
 // Four blocks of eight pages. The second program fails, the third, and the one in which the collector first copies

@@ -28,13 +28,6 @@ impl From<Plan> for Deed {
     }
 }
 
-// A save answers its tries.
-impl From<u32> for Deed {
-    fn from(tries: u32) -> Deed {
-        Deed::Saved(tries)
-    }
-}
-
 impl fmt::Display for Deed {
     fn fmt<W: fmt::Write>(&self, f: &mut fmt::Formatter<W>) -> fmt::Result {
         match self {
@@ -96,5 +89,6 @@ pub(crate) fn say<T: Into<Deed>>(
 pub(crate) fn read_back(store: &mut Console<'_>, number: u16) -> Result<Deed, Refusal> {
     let mut buffer = [0u8; 8];
     let length = store.read(number, &mut buffer)?;
-    Ok(Deed::Read([buffer[0], buffer[1]], length))
+    let [first, second, ..] = buffer;
+    Ok(Deed::Read([first, second], length))
 }

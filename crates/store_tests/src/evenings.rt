@@ -17,6 +17,7 @@ struct Counts {
     copy_tries: u32,
 }
 
+// The rows of numbers that the tests compare with are those of the other program.
 impl From<Counts> for [u32; 6] {
     fn from(counts: Counts) -> [u32; 6] {
         let Counts {
@@ -37,15 +38,17 @@ fn holds<C: Chip, H: Chooser>(store: &mut Store<C, H>, number: u16, byte: u8) ->
     store.read(number, &mut buffer) == Ok(1) && buffer[0] == byte
 }
 
-// Takes a permit, saves a byte with it and reads it back; answers the tries, and 0 where it is not to be had.
-fn record<C: Chip, H: Chooser>(store: &mut Store<C, H>, seat: u8, number: u16, byte: u8) -> u32 {
+// Takes a permit, saves a byte with it and reads it back; answers the tries, if it is to be had.
+fn record<C: Chip, H: Chooser>(
+    store: &mut Store<C, H>,
+    seat: u8,
+    number: u16,
+    byte: u8,
+) -> Option<u32> {
     let answer = store
         .take(seat)
         .and_then(|permit| store.save(permit, number, &[byte]));
-    match answer {
-        Ok(tries) if holds(store, number, byte) => tries,
-        _ => 0,
-    }
+    answer.ok().filter(|_| holds(store, number, byte))
 }
 
 // A tick, and then a split or a page of the ranking. The first page of all is never saved again, and must stay.
@@ -58,10 +61,10 @@ fn minute<C: Chip, H: Chooser>(store: &mut Store<C, H>, at: u8, so_far: Counts) 
         _ if at % 2 == 1 => record(store, 1, 2, at),
         _ => record(store, 0, u16::from(at / 2 % 2), at),
     };
-    let good = tries > 0 && holds(store, 3, 77);
+    let good = tries.is_some() && holds(store, 3, 77);
     Counts {
         saves: so_far.saves.saturating_add(u32::from(good)),
-        tries: so_far.tries.saturating_add(tries),
+        tries: so_far.tries.saturating_add(tries.unwrap_or_default()),
         runs: so_far.runs.saturating_add(done.runs),
         recycles: so_far.recycles.saturating_add(done.recycles),
         copies: so_far.copies.saturating_add(done.copies),
@@ -93,8 +96,8 @@ fn evening<C: Chip + Drop, H: Chooser + Drop>(chip: C, chooser: H, ticks: u8) ->
     let mut store = Store::new(chip, chooser);
     let mut counts = Counts::default();
     if admitted(&mut store).is_ok() {
-        for at in 0..ticks {
-            counts = minute(&mut store, at.saturating_add(1), counts);
+        for at in 1..=ticks {
+            counts = minute(&mut store, at, counts);
         }
     }
     counts.into()

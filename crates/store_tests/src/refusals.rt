@@ -1,4 +1,4 @@
-// Every refusal, by its number.
+// Every refusal, by its number: that is what firmware and scripts see.
 use chip::{Flawed, Plain, Size};
 use chooser::Greedy;
 use ledger::Refusal;
@@ -144,10 +144,11 @@ fn permits(rt: HostRuntime) {
         Err(refusal) => (refusal.number(), 0),
     };
     assert_eq!(rt; (noticed, returned), (15, 16));
-    let stored = match other.take(0) {
-        Ok(permit) => number_of(one.save(permit, 1, &[4, 2])),
-        Err(refusal) => refusal.number(),
-    };
+    let stored = number_of(
+        other
+            .take(0)
+            .and_then(|permit| one.save(permit, 1, &[4, 2])),
+    );
     assert_eq!(rt; stored, 0);
     assert_eq!(rt; taken(&mut one, 0), 14);
     assert_eq!(rt; number_of(other.notice(0)), 15);
