@@ -1,17 +1,20 @@
-use Rattle.std.proofs.Common.{◌-◌, refl, ◌∙◌}
+use Rattle.std.proofs.Common.{◌≡◌, ℕ, ◌-◌, true, false, List, length, drop, Some, None, Option, MatchOption, refl, ◌∙◌, rules}
+use Rattle.chip.specs.declared.gaps.Gaps.{Gaps}
+use Rattle.chip.specs.declared.size.Size.{Size}
+use Rattle.chip.specs.Gaps.{good_gaps}
+use Rattle.chip.specs.Makes.{means_of, size_for, made_flawed}
 use Rattle.chip.proofs.Placing.{means_none, means_for}
 use Rattle.chip.proofs.flawed.Flawed.new.Goals as goal
-use Rattle.chip.proofs.flawed.Flawed.new.Goals.{in-Some, in-None}
+
+means_made : (s zeros : Size) (none : Gaps) (gaps memory : List ℕ) (told : Option Gaps) (got : Size × Gaps) → zeros.blocks ≡ 0
+    → MatchOption told (good_gaps gaps ≡ false) (λ g. (good_gaps gaps ≡ true) × (8 - g.next ≡ length gaps) × (drop g.next g.table ≡ gaps))
+    → MatchOption told (got ≡ (zeros, none)) (λ g. got ≡ (s, g))
+    → means_of (size_for got.0 (length memory)) (8 - got.1.next) memory ≡ made_flawed s.blocks s.pages_per_block s.page_size gaps memory
+means_made s zeros none gaps memory None got empty bad is = rw (is, bad) (means_for zeros (8 - none.next) memory ∙ means_none zeros (8 - none.next) memory empty)
+means_made s zeros none gaps memory (Some g) got empty good is = rw (is, means_for s (8 - g.next) memory, good.0, good.1) refl
 
 pub returns-clause-means : goal.returns-clause-means
 returns-clause-means c =
     let taken = c.new-2.ensures in
-    elim c.match-new.branch [
-      | in-Some w ↦
-          let good = w.in-Some.ensures in
-          rw (taken.size, taken.bytes, w.t-9-is, means_for c.args.size (8 - w.in-Some.gaps.next) c.args.memory.now, good.0, good.1) refl
-      | in-None w ↦
-          let left = 8 - w.none.result.next in
-          let none = means_for w.default.result left c.args.memory.now ∙ means_none w.default.result left c.args.memory.now w.default.ensures.0 in
-          rw (taken.size, taken.bytes, w.t-9-is, none, w.in-None.ensures) refl
-    ]
+    rw (taken.size, taken.bytes)
+    (means_made c.args.size c.default.result c.none.result c.args.gaps.now c.args.memory.now c.new.result c.map_or.result c.default.ensures.0 c.new.ensures (let e = c.map_or.ensures in search rules))
