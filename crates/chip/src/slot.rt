@@ -31,7 +31,7 @@ impl<'a> Slot<'a> {
     fn count(&self) -> usize
         ensures { result ≡ two self.now.bytes.now 1 }
     {
-        u16::from_be_bytes([self.bytes[1], self.bytes[2]]) as usize
+        usize::from(u16::from_be_bytes([self.bytes[1], self.bytes[2]]))
     }
 
     fn label(&self) -> u16

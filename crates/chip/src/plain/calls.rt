@@ -34,7 +34,7 @@ impl<'a> Plain<'a> {
     fn slot(&self, page: u16) -> Result<Slot<'_>, Refusal>
         ensures { Held self.now page result }
     {
-        if page as usize >= self.size.pages() {
+        if usize::from(page) >= self.size.pages() {
             return Err(Refusal::NotThere);
         }
         let at = self.size.slot(page);
@@ -85,7 +85,7 @@ impl<'a> Plain<'a> {
         if !slot.is_free() {
             return Err(Refusal::WrongKind);
         }
-        if long > self.size.page_size as usize {
+        if long > usize::from(self.size.page_size) {
             return Err(Refusal::TooLong);
         }
         Ok(self.size.slot(page))
