@@ -2,60 +2,57 @@ use crate::chooser::Chooser;
 use crate::greedy::Greedy;
 use crate::hand::Hand;
 use crate::question::Question;
+use std::test::Fail;
 
-// Asks one hand about each list in turn.
-fn hand_over(rt: &HostRuntime, table: &[(&[u8], u16)]) {
+// Asks one hand about each list in turn. It compares by hand, since `assert_eq!` may stop the program, and the right to
+// do so is the test's own: a helper would have to ask for it.
+fn hand_over(table: &[(&[u8], u16)]) -> Result<(), Fail> {
     let mut hand = Hand::new();
     for (dead, block) in table {
-        assert_eq!(rt; hand.choose(Question { dead: *dead }), *block);
+        let named = hand.choose(Question { dead: *dead });
+        if named != *block {
+            return Err(Fail::new(format_args!("named {named} in place of {block}")));
+        }
     }
+    Ok(())
 }
 
 #[test]
-fn the_hand_goes_upwards_and_round(rt: HostRuntime) {
-    hand_over(
-        &rt,
-        &[
-            (&[3, 0, 7, 2], 0),
-            (&[3, 0, 7, 2], 2),
-            (&[3, 0, 7, 2], 0),
-            (&[0, 0, 0, 9], 3),
-            (&[1, 4], 1),
-            (&[0, 5, 5], 2),
-            (&[0, 5, 5], 1),
-        ],
-    );
+fn the_hand_goes_upwards_and_round() -> Result<(), Fail> {
+    hand_over(&[
+        (&[3, 0, 7, 2], 0),
+        (&[3, 0, 7, 2], 2),
+        (&[3, 0, 7, 2], 0),
+        (&[0, 0, 0, 9], 3),
+        (&[1, 4], 1),
+        (&[0, 5, 5], 2),
+        (&[0, 5, 5], 1),
+    ])
 }
 
 #[test]
-fn the_hand_takes_its_turn_at_equal_counts(rt: HostRuntime) {
-    hand_over(
-        &rt,
-        &[
-            (&[0, 0, 0], 0),
-            (&[0, 0, 0], 1),
-            (&[0, 0, 0], 2),
-            (&[4, 4, 4], 0),
-            (&[9], 0),
-            (&[0], 0),
-            (&[1; 64], 1),
-            (&[32; 64], 2),
-        ],
-    );
+fn the_hand_takes_its_turn_at_equal_counts() -> Result<(), Fail> {
+    hand_over(&[
+        (&[0, 0, 0], 0),
+        (&[0, 0, 0], 1),
+        (&[0, 0, 0], 2),
+        (&[4, 4, 4], 0),
+        (&[9], 0),
+        (&[0], 0),
+        (&[1; 64], 1),
+        (&[32; 64], 2),
+    ])
 }
 
 #[test]
-fn other_lists_are_answered_0_and_leave_the_hand_where_it_was(rt: HostRuntime) {
-    hand_over(
-        &rt,
-        &[
-            (&[2, 2, 2], 0),
-            (&[], 0),
-            (&[2, 2, 33], 0),
-            (&[1; 65], 0),
-            (&[2, 2, 2], 1),
-        ],
-    );
+fn other_lists_are_answered_0_and_leave_the_hand_where_it_was() -> Result<(), Fail> {
+    hand_over(&[
+        (&[2, 2, 2], 0),
+        (&[], 0),
+        (&[2, 2, 33], 0),
+        (&[1; 65], 0),
+        (&[2, 2, 2], 1),
+    ])
 }
 
 #[test]
