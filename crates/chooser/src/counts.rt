@@ -58,8 +58,9 @@ impl<'a> Counts<'a> {
         ensures passes { Passes self.now.dead.now from }
         ensures yields { Yields self.now.dead.now result }
     {
-        // By cases: with `or_else` the proof does not close, since what its FnOnce promises does not open over a struct
-        // with ghost fields.
+        // By cases, since no shorter form is proved: what the closure of `or_else` promises as a FnOnce does not open over
+        // a struct with ghost fields, and with one `find` over `(from..n).chain(0..from)` it stays open that the closure
+        // may be called at each block.
         match self.first_from(from) {
             Some(block) => block,
             None => self.first_from(0).unwrap(),
