@@ -58,9 +58,9 @@ impl<'a> Counts<'a> {
         ensures passes { Passes self.now.dead.now from }
         ensures yields { Yields self.now.dead.now result }
     {
-        // By cases, since no shorter form is proved: what the closure of `or_else` promises as a FnOnce does not open over
-        // a struct with ghost fields, and with one `find` over `(from..n).chain(0..from)` it stays open that the closure
-        // may be called at each block.
+        // By cases. The closure of `or_else`, a FnOnce that lends a struct with ghost fields, promises nothing unless it has
+        // clauses of its own, and these are longer than two cases. With one `find` over `(from..n).chain(0..from)` it
+        // stays open that the closure may be called at each block.
         match self.first_from(from) {
             Some(block) => block,
             None => self.first_from(0).unwrap(),
