@@ -1,12 +1,16 @@
 ghost use Rattle.std.specs.Prelude.{◌≡◌, ◌-◌, ◌≤◌, true, false, [], length, drop, if◌then◌else◌, MatchOption};
 ghost use Rattle.chip.specs.Gaps.{strikes, worn, good_gaps};
 
+// The most gaps that a chip may have.
+const MOST: usize = 8;
+
 // The gaps of a flawed chip, at the end of the table. The one at `next` counts, and those before it are spent.
-// The table is as large as it may get, since a chip has no memory but what it is lent. No ghost field says that
-// `next` is at most 8: a chip that holds a `&mut` and such a struct is not proved where it is a type argument.
+// They are lent for the call of `new` alone, so they are copied, into a table as large as it may get: there is no heap.
+// No ghost field says that `next` is at most 8: a chip that holds a `&mut` and such a struct is not proved where it is
+// a type argument.
 #[derive(Clone, Copy)]
 pub(crate) struct Gaps {
-    table: [u16; 8],
+    table: [u16; MOST],
     next: usize,
 }
 
@@ -15,28 +19,28 @@ impl Gaps {
         ensures { drop result.next result.table ≡ [] }
     {
         Gaps {
-            table: [0; 8],
-            next: 8,
+            table: [0; MOST],
+            next: MOST,
         }
     }
 
     pub(crate) fn new(gaps: &[u16]) -> Option<Gaps>
         ensures { MatchOption result (good_gaps gaps.now ≡ false) (λ g. (good_gaps gaps.now ≡ true) × (8 - g.next ≡ length gaps.now) × (drop g.next g.table ≡ gaps.now)) }
     {
-        if gaps.len() > 8 || gaps.contains(&0) {
+        if gaps.len() > MOST || gaps.contains(&0) {
             return None;
         }
-        let next = 8 - gaps.len();
-        let mut table = [0; 8];
+        let next = MOST - gaps.len();
+        let mut table = [0; MOST];
         table[next..].copy_from_slice(gaps);
         Some(Gaps { table, next })
     }
 
-    // How many gaps are left.
+    // How many gaps are left: 8 at most, so the cast loses nothing.
     pub(crate) fn left(&self) -> u16
         ensures { result ≡ 8 - self.now.next }
     {
-        8usize.saturating_sub(self.next) as u16
+        MOST.saturating_sub(self.next) as u16
     }
 
     // Whether the next accepted program fails.

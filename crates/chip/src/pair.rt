@@ -1,7 +1,7 @@
 ghost use Rattle.std.specs.Prelude.{◌≡◌, length};
 ghost use Rattle.chip.specs.Calls.{shape_of, kind_told, Programmed, fetched, fetched_into, erase_told, erased};
 ghost use Rattle.chip.specs.Fronts.{front_of, Splits, PageIn, BlockIn};
-ghost use Rattle.chip.specs.Pairs.{joined, joined_shaped, side_of, block_side, ProgramsOne, ErasesOne};
+ghost use Rattle.chip.specs.Pairs.{both_shapes, joined, joined_shaped, side_of, block_side, ProgramsOne, ErasesOne};
 
 use crate::chip::Chip;
 use crate::words::{Kind, Refusal, Shape};
@@ -35,6 +35,9 @@ impl Half {
 }
 
 impl<A: Chip, B: Chip> Pair<A, B> {
+    // The calls of a chip take it by `&mut`, so what only asks a chip says that both stay: the clauses `first` and
+    // `second`, here and below.
+
     // Both chips, as they are. Two that do not fit together make a chip without pages.
     pub fn new(first: A, second: B) -> Pair<A, B>
         ensures first { result.first ≡ first }
@@ -44,15 +47,25 @@ impl<A: Chip, B: Chip> Pair<A, B> {
         Pair { first, second }
     }
 
+    // The shape of the first chip, and that of the pair, if the two fit together.
+    fn shapes(&mut self) -> (Shape, Option<Shape>)
+        ensures front { result.0 ≡ shape_of (A.Chip.means self.old.first) }
+        ensures whole { result.1 ≡ both_shapes (shape_of (A.Chip.means self.old.first)) (shape_of (B.Chip.means self.old.second)) }
+        ensures first { A.Chip.means self.new.first ≡ A.Chip.means self.old.first }
+        ensures second { B.Chip.means self.new.second ≡ B.Chip.means self.old.second }
+    {
+        let front = self.first.shape();
+        (front, front.join(self.second.shape()))
+    }
+
     // The shape of the first chip, if the two fit together.
     fn front(&mut self) -> Result<Shape, Refusal>
         ensures value { result ≡ front_of (A.Chip.means self.old.first) (B.Chip.means self.old.second) }
         ensures first { A.Chip.means self.new.first ≡ A.Chip.means self.old.first }
         ensures second { B.Chip.means self.new.second ≡ B.Chip.means self.old.second }
     {
-        let front = self.first.shape();
-        let back = self.second.shape();
-        front.join(back).map(|_| front).ok_or(Refusal::NotThere)
+        let (front, whole) = self.shapes();
+        whole.map(|_| front).ok_or(Refusal::NotThere)
     }
 
     // Which of the two a page lies in.
@@ -87,11 +100,11 @@ impl<A: Chip, B: Chip> Chip for Pair<A, B> {
         ensures first { A.Chip.means self.new.first ≡ A.Chip.means self.old.first }
         ensures second { B.Chip.means self.new.second ≡ B.Chip.means self.old.second }
     {
-        let front = self.first.shape();
-        let back = self.second.shape();
-        front.join(back).unwrap_or_default()
+        self.shapes().1.unwrap_or_default()
     }
 
+    // Each call matches for itself: a function that lends the half as a `dyn Chip` would have to say of every call that
+    // the other chip stays.
     fn kind(&mut self, page: u16) -> Result<Kind, Refusal>
         ensures value { result ≡ kind_told (joined (A.Chip.means self.old.first) (B.Chip.means self.old.second)) page }
         ensures same { joined (A.Chip.means self.new.first) (B.Chip.means self.new.second) ≡ joined (A.Chip.means self.old.first) (B.Chip.means self.old.second) }
@@ -105,8 +118,8 @@ impl<A: Chip, B: Chip> Chip for Pair<A, B> {
     }
 
     fn program(&mut self, page: u16, label: u16, bytes: &[u8]) -> Result<bool, Refusal>
-        ensures effect { Programmed (joined (A.Chip.means self.old.first) (B.Chip.means self.old.second)) page label bytes.now result (joined (A.Chip.means self.new.first) (B.Chip.means self.new.second)) }
-        ensures one { ProgramsOne (side_of (A.Chip.means self.old.first) (B.Chip.means self.old.second) page) (A.Chip.means self.old.first) (B.Chip.means self.old.second) page label bytes.now result (A.Chip.means self.new.first) (B.Chip.means self.new.second) }
+        ensures effect { let before = joined (A.Chip.means self.old.first) (B.Chip.means self.old.second) in Programmed before page label bytes.now result (joined (A.Chip.means self.new.first) (B.Chip.means self.new.second)) }
+        ensures one { let a = A.Chip.means self.old.first in let b = B.Chip.means self.old.second in ProgramsOne (side_of a b page) a b page label bytes.now result (A.Chip.means self.new.first) (B.Chip.means self.new.second) }
     {
         match self.page(page)? {
             Half::First(page) => self.first.program(page, label, bytes),
@@ -129,8 +142,8 @@ impl<A: Chip, B: Chip> Chip for Pair<A, B> {
 
     fn erase(&mut self, block: u16) -> Result<(), Refusal>
         ensures value { result ≡ erase_told (joined (A.Chip.means self.old.first) (B.Chip.means self.old.second)) block }
-        ensures after { joined (A.Chip.means self.new.first) (B.Chip.means self.new.second) ≡ erased (joined (A.Chip.means self.old.first) (B.Chip.means self.old.second)) block }
-        ensures one { ErasesOne (block_side (A.Chip.means self.old.first) (B.Chip.means self.old.second) block) (A.Chip.means self.old.first) (B.Chip.means self.old.second) block result (A.Chip.means self.new.first) (B.Chip.means self.new.second) }
+        ensures after { let before = joined (A.Chip.means self.old.first) (B.Chip.means self.old.second) in joined (A.Chip.means self.new.first) (B.Chip.means self.new.second) ≡ erased before block }
+        ensures one { let a = A.Chip.means self.old.first in let b = B.Chip.means self.old.second in ErasesOne (block_side a b block) a b block result (A.Chip.means self.new.first) (B.Chip.means self.new.second) }
     {
         match self.block(block)? {
             Half::First(block) => self.first.erase(block),

@@ -1,4 +1,4 @@
-ghost use Rattle.std.specs.Prelude.{◌≡◌, ◌+◌, ◌*◌};
+ghost use Rattle.std.specs.Prelude.{◌≡◌, ◌+◌, ◌*◌, ◌^◌, ◌<◌};
 ghost use Rattle.chip.specs.Slot.{wide, in_range, fits};
 
 use crate::slot;
@@ -17,14 +17,14 @@ impl Size {
     pub(crate) fn pages(self) -> usize
         ensures { result ≡ self.blocks * self.pages_per_block }
     {
-        self.blocks as usize * self.pages_per_block as usize
+        usize::from(self.blocks) * usize::from(self.pages_per_block)
     }
 
     // How many bytes a slot takes.
     fn wide(self) -> usize
         ensures { result ≡ wide self.page_size }
     {
-        slot::HEADER + self.page_size as usize
+        slot::HEADER + usize::from(self.page_size)
     }
 
     // Where the slot of a page lies.
@@ -32,9 +32,7 @@ impl Size {
         ensures from { result.start ≡ page * wide self.page_size }
         ensures to { result.end ≡ result.start + wide self.page_size }
     {
-        let wide = self.wide();
-        let from = page as usize * wide;
-        from..from + wide
+        nth(page, self.wide())
     }
 
     // Where the slots of a block lie.
@@ -42,9 +40,7 @@ impl Size {
         ensures from { result.start ≡ block * (self.pages_per_block * wide self.page_size) }
         ensures to { result.end ≡ result.start + self.pages_per_block * wide self.page_size }
     {
-        let wide = self.pages_per_block as usize * self.wide();
-        let from = block as usize * wide;
-        from..from + wide
+        nth(block, usize::from(self.pages_per_block) * self.wide())
     }
 
     // Whether a chip may have this size.
@@ -63,4 +59,14 @@ impl Size {
     {
         self.in_range() && self.pages() * self.wide() == long
     }
+}
+
+// Where the part of that number lies, of parts of so many bytes each.
+fn nth(number: u16, wide: usize) -> Range<usize>
+    requires { wide < 2 ^ 40 }
+    ensures from { result.start ≡ number * wide }
+    ensures to { result.end ≡ result.start + wide }
+{
+    let from = usize::from(number) * wide;
+    from..from + wide
 }

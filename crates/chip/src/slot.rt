@@ -1,5 +1,5 @@
 // One page as bytes. A slot has 16 bytes of header and then room for the page's data.
-ghost use Rattle.std.specs.Prelude.{◌≡◌, ◌+◌, ◌^◌, ◌<◌, ◌≤◌, length, replicate};
+ghost use Rattle.std.specs.Prelude.{◌≡◌, ◌+◌, ◌^◌, ◌<◌, ◌≤◌, length};
 ghost use Rattle.chip.specs.Calls.{kind_of, fetched_page};
 ghost use Rattle.chip.specs.Slot.{room, header, slot_of, two, all_ones, is_written, page_of, fetched_onto};
 
@@ -10,7 +10,7 @@ pub const HEADER: usize = 16;
 const VERSION: u8 = 1;
 
 // What an erased byte reads as.
-const BLANK: u8 = 0xFF;
+pub(crate) const BLANK: u8 = 0xFF;
 
 // Every byte is looked at, with no way out before the end: so the compiler can take many at a time.
 fn is_blank(bytes: &[u8]) -> bool
@@ -31,7 +31,7 @@ impl<'a> Slot<'a> {
     fn count(&self) -> usize
         ensures { result ≡ two self.now.bytes.now 1 }
     {
-        u16::from_be_bytes([self.bytes[1], self.bytes[2]]) as usize
+        usize::from(u16::from_be_bytes([self.bytes[1], self.bytes[2]]))
     }
 
     fn label(&self) -> u16
@@ -83,7 +83,7 @@ impl<'a> Slot<'a> {
     }
 }
 
-fn header(long: u16, label: u16) -> [u8; 16]
+fn header(long: u16, label: u16) -> [u8; HEADER]
     ensures { result ≡ header long label }
 {
     let [long_high, long_low] = long.to_be_bytes();
@@ -99,24 +99,11 @@ pub(crate) fn write(slot: &mut [u8], label: u16, bytes: &[u8])
     requires small { length bytes.now < 2 ^ 16 }
     ensures { slot.new ≡ slot_of (room slot.old) label bytes.now }
 {
+    // The length is below 2 ^ 16, so the cast loses nothing.
     let front = header(bytes.len() as u16, label);
     let (head, rest) = slot.split_at_mut(HEADER);
     let (data, tail) = rest.split_at_mut(bytes.len());
     head.copy_from_slice(&front);
     data.copy_from_slice(bytes);
     tail.fill(BLANK);
-}
-
-// What a program that failed leaves.
-pub(crate) fn fail(slot: &mut [u8])
-    ensures { slot.new ≡ replicate (length slot.old) 0 }
-{
-    slot.fill(0);
-}
-
-// Erases a slot, or many in a row.
-pub(crate) fn erase(slots: &mut [u8])
-    ensures { slots.new ≡ replicate (length slots.old) 255 }
-{
-    slots.fill(BLANK);
 }

@@ -23,7 +23,7 @@ pub enum Refusal {
 }
 
 impl Refusal {
-    // The number under which the rules list this refusal.
+    // That number.
     pub fn number(self) -> u8
         ensures { result ≡ number self }
     {
@@ -32,6 +32,7 @@ impl Refusal {
 }
 
 // How large a chip is, and how many of its page writes may still fail. By default it has no pages.
+// Its numbers stand beside the allowance, and not in a `Size`: these fields are public, and the clauses name them.
 #[derive(Clone, Copy, PartialEq, Eq, Debug, Default)]
 pub struct Shape {
     pub blocks: u16,
@@ -47,8 +48,8 @@ impl Shape {
     {
         let fit = self.pages_per_block == other.pages_per_block
             && self.page_size == other.page_size
-            && self.blocks as u32 + other.blocks as u32 <= 64
-            && self.allowance as u32 + other.allowance as u32 <= 65535;
+            && u32::from(self.blocks) + u32::from(other.blocks) <= 64
+            && u32::from(self.allowance) + u32::from(other.allowance) <= u32::from(u16::MAX);
         fit.then(|| Shape {
             blocks: self.blocks + other.blocks,
             allowance: self.allowance + other.allowance,

@@ -8,5 +8,5 @@ mod pairs;
 #[cfg(test)]
 mod slots;
 
-// The bytes of a slot before its data.
+// The bytes of a slot before its data: each slot of the dump in `slots` begins with so many.
 pub const HEADER: usize = 16;

@@ -34,24 +34,33 @@ impl<'a> Counts<'a> {
         })
     }
 
+    // How many blocks there are: at most 64, so the cast loses nothing.
+    pub(crate) fn blocks(&self) -> u16
+        ensures { result ≡ length self.now.dead.now }
+    {
+        self.dead.len() as u16
+    }
+
     // A block with the most dead pages: the first of several, since `max_by_key` takes the last that it meets.
-    pub(crate) fn fullest(&self) -> usize
+    pub(crate) fn fullest(&self) -> u16
         ensures { Fullest self.now.dead.now result }
     {
-        (0..self.dead.len())
+        (0..self.blocks())
             .rev()
-            .max_by_key(|block| self.dead[*block])
+            .max_by_key(|block| self.dead[usize::from(*block)])
             .unwrap()
     }
 
     // The first block that has at least the average, going up from `from` and round: there always is one.
-    pub(crate) fn first_round(&self, from: usize) -> usize
+    pub(crate) fn first_round(&self, from: u16) -> u16
         requires { from < length self.now.dead.now }
         ensures block { result ≡ first_round self.now.dead.now from }
         ensures passes { Passes self.now.dead.now from }
         ensures yields { Yields self.now.dead.now result }
     {
-        // By cases: with `or_else` the proof does not close, since its closure would hold a struct with ghost fields.
+        // By cases. The closure of `or_else`, a FnOnce that lends a struct with ghost fields, promises nothing unless it has
+        // clauses of its own, and these are longer than two cases. With one `find` over `(from..n).chain(0..from)` it
+        // stays open that the closure may be called at each block.
         match self.first_from(from) {
             Some(block) => block,
             None => self.first_from(0).unwrap(),
@@ -59,18 +68,18 @@ impl<'a> Counts<'a> {
     }
 
     // The first block, at `from` or above it, that has at least the average.
-    fn first_from(&self, from: usize) -> Option<usize>
+    fn first_from(&self, from: u16) -> Option<u16>
         ensures { result ≡ first_from self.now.dead.now from }
     {
-        (from..self.dead.len()).find(|block| !self.below_average(*block))
+        (from..self.blocks()).find(|block| !self.below_average(*block))
     }
 
-    // Whether a block has less than the average, without a division. At most 64 blocks: the cast loses nothing.
-    fn below_average(&self, block: usize) -> bool
+    // Whether a block has less than the average, without a division.
+    fn below_average(&self, block: u16) -> bool
         requires { block < length self.now.dead.now }
         ensures { result ≡ below_average self.now.dead.now (slice_index self.now.dead.now block) }
     {
-        u16::from(self.dead[block]) * (self.dead.len() as u16) < self.sum
+        u16::from(self.dead[usize::from(block)]) * self.blocks() < self.sum
     }
 }
 

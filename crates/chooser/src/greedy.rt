@@ -15,7 +15,6 @@ impl Chooser for Greedy {
         ensures law { Answers question.entry.dead.now self.old result self.new }
         ensures most { askable question.entry.dead.now ≡ true → Fullest question.entry.dead.now result }
     {
-        // A block is below 64, so the cast loses nothing.
-        Counts::of(question.dead).map_or(0, |counts| counts.fullest() as u16)
+        Counts::of(question.dead).map_or(0, |counts| counts.fullest())
     }
 }

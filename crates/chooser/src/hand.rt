@@ -32,10 +32,12 @@ impl Chooser for Hand {
         let Some(counts) = Counts::of(question.dead) else {
             return 0;
         };
-        let next = usize::from(self.next);
-        let from = if next < question.dead.len() { next } else { 0 };
-        // A block is below 64, so the cast loses nothing.
-        let block = counts.first_round(from) as u16;
+        let from = if self.next < counts.blocks() {
+            self.next
+        } else {
+            0
+        };
+        let block = counts.first_round(from);
         self.next = block + 1;
         block
     }

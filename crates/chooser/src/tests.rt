@@ -4,7 +4,8 @@ use crate::hand::Hand;
 use crate::question::Question;
 use std::test::Fail;
 
-// Asks one hand about each list in turn.
+// Asks one hand about each list in turn. It compares by hand, since `assert_eq!` may stop the program, and the right to
+// do so is the test's own: a helper would have to ask for it.
 fn hand_over(table: &[(&[u8], u16)]) -> Result<(), Fail> {
     let mut hand = Hand::new();
     for (dead, block) in table {

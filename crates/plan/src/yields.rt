@@ -2,6 +2,7 @@ ghost use Rattle.std.specs.Prelude.{◌≡◌, Decides};
 ghost use Rattle.plan.specs.Yield.{IntegerRule, yield_rule};
 
 // Does every choice of a block win back its yield? `held` is the most tokens that can be out then.
+// Five numbers by position: the rule is over five integers, and others than a frame ask it.
 // A need beyond 128 bits is beyond any room that 64-bit numbers make.
 pub fn yield_rule(blocks: u64, pages: u64, offered: u64, held: u64, alpha: u64) -> bool
     ensures answer { result ≡ yield_rule blocks pages offered held alpha }

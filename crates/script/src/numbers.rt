@@ -1,7 +1,8 @@
 ghost use Rattle.std.specs.Prelude.{◌≡◌};
 ghost use Rattle.script.specs.Numbers.{number_of};
 
-// The number that a word is.
+// The number that a word is. Not by `parse`: that takes a sign too, and wants text, so the word would be gone through
+// three times: for its digits, for its text and for its value.
 pub fn number(word: &[u8]) -> Option<u16>
     ensures { result ≡ number_of word.now }
 {

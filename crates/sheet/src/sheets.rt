@@ -36,10 +36,10 @@ fn plan_of(mut line: Line<'_>) -> Option<Plan>
         period: number(line.next()?)?.into(),
         writes: number(line.next()?)?.into(),
     };
-    match line.next() {
-        None => Plan::of(alpha.into(), job),
-        Some(_) => None,
+    if line.next().is_some() {
+        return None;
     }
+    Plan::of(alpha.into(), job)
 }
 
 fn write_answer(out: &mut String, plan: Option<Plan>) -> Result<(), AllocError>

@@ -23,10 +23,10 @@ impl<'a> Flawed<'a> {
         ensures layout { Layout }
         ensures law { GapLaw }
     {
-        let (size, gaps) = match Gaps::new(gaps) {
-            Some(gaps) => (size, gaps),
-            None => (Size::default(), Gaps::none()),
-        };
+        let (size, gaps) = Gaps::new(gaps).map_or(
+            (Size::default(), Gaps::none()),
+            |gaps| (size, gaps),
+        );
         Flawed {
             plain: Plain::new(memory, size),
             gaps,

@@ -34,7 +34,7 @@ impl<'a> Plain<'a> {
     fn slot(&self, page: u16) -> Result<Slot<'_>, Refusal>
         ensures { Held self.now page result }
     {
-        if page as usize >= self.size.pages() {
+        if usize::from(page) >= self.size.pages() {
             return Err(Refusal::NotThere);
         }
         let at = self.size.slot(page);
@@ -59,8 +59,8 @@ impl<'a> Plain<'a> {
         }
     }
 
-    // What both makes of chip in memory answer. The calls of the trait take `&mut self`; these take `&self`, and so
-    // need no clauses on what stays.
+    // `told`, `look` and `read` are what both makes of chip in memory answer. The calls of the trait take `&mut self`,
+    // since some chips need it; these three take `&self`, and so need no clauses on what stays.
     #[tactic(auto, using(crate::proofs::Placing::told_kind))]
     pub(crate) fn look(&self, page: u16) -> Result<Kind, Refusal>
         ensures { result ≡ kind_told (plain_means self.now) page }
@@ -85,7 +85,7 @@ impl<'a> Plain<'a> {
         if !slot.is_free() {
             return Err(Refusal::WrongKind);
         }
-        if long > self.size.page_size as usize {
+        if long > usize::from(self.size.page_size) {
             return Err(Refusal::TooLong);
         }
         Ok(self.size.slot(page))
@@ -101,8 +101,9 @@ impl<'a> Plain<'a> {
         Ok(self.size.block(block))
     }
 
-    // A program that is good, whatever make of chip this memory is part of. It and `spoil` differ in one call, which as
-    // a closure would cost more lines of contract than it saves.
+    // `put`, `spoil` and `wipe` are what both makes do to the memory; they take `&mut self`, for they write it.
+    // A program that is good. It and `spoil` differ in what they write, which as a closure would cost more lines of
+    // contract than it saves.
     pub(crate) fn put(&mut self, page: u16, label: u16, bytes: &[u8]) -> Result<(), Refusal>
         ensures { Put self.old page (length bytes.now) (slot_of self.old.size.page_size label bytes.now) result self.new }
     {
@@ -111,20 +112,21 @@ impl<'a> Plain<'a> {
         Ok(())
     }
 
-    // A program of so many bytes that fails.
+    // A program of so many bytes that fails: it leaves zeros.
     pub(crate) fn spoil(&mut self, page: u16, long: usize) -> Result<(), Refusal>
         ensures { Put self.old page long (failed_slot self.old.size.page_size) result self.new }
     {
         let at = self.open(page, long)?;
-        slot::fail(&mut self.memory[at]);
+        self.memory[at].fill(0);
         Ok(())
     }
 
+    // Erases every slot of a block.
     pub(crate) fn wipe(&mut self, block: u16) -> Result<(), Refusal>
         ensures { Wiped self.old block result self.new }
     {
         let at = self.block(block)?;
-        slot::erase(&mut self.memory[at]);
+        self.memory[at].fill(slot::BLANK);
         Ok(())
     }
 }

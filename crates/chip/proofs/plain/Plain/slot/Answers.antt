@@ -6,7 +6,7 @@ pub slice_bounds-result-end : goal.slice_bounds-result-end
 slice_bounds-result-end c =
     let p = c.args.self.now in
     let e = c.pages.ensures in
-    let test = c.if-page-pages.false in
+    let test = c.if-from-pages.false in
     let here : c.args.page < p.size.blocks * p.size.pages_per_block = omega arith in
     let whole = whole_at p.size _ p.sized c.args.page here in
     (within p.size 0 p.memory.now whole c.args.page c.slot-at.result here c.slot-at.ensures.from c.slot-at.ensures.to).ends
