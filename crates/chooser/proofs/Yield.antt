@@ -1,5 +1,5 @@
 -- What the yield law gives, and what gives it.
-use Rattle.std.proofs.Common.{◌≡◌, ℕ, ◌-◌, ◌<◌, ◌≤◌, Bool, true, false, List, length, get_or, MatchBool, refl, subst, mul_comm, lt_of_mul-lt-mul_right, arith}
+use Rattle.std.proofs.Common.{◌≡◌, ℕ, ◌-◌, ◌<◌, ◌≤◌, Bool, true, false, List, length, get_or, MatchBool, sym, refl, subst, mul_comm, lt_of_mul-lt-mul_right, arith}
 use Rattle.std.proofs.ByRecursion.{All-from_get_or}
 use Rattle.std.proofs.ByRecursion.{sum_by_le}
 use Rattle.chooser.specs.Counts.{Fullest}
@@ -27,9 +27,14 @@ pub answer_worth : {S : Type 0} (dead : List ℕ) (before : S) (block : ℕ) (af
 answer_worth dead before block after asked answer =
     yields_worth dead block (answer_yields dead before block after asked answer)
 
--- what answers so that the law holds: a block that yields, and 0 on a list that no chooser has to answer
-pub yields_answer : {S : Type 0} (dead : List ℕ) (before : S) (block : ℕ) → (askable dead ≡ true → Yields dead block) → (askable dead ≡ false → block ≡ 0) → Answers dead before block before
-yields_answer dead before block yields none = by (askable dead) refl
+-- a block that yields answers a list that a chooser has to answer
+pub yields_answer : {S : Type 0} (dead : List ℕ) (before : S) (block : ℕ) (after : S) → askable dead ≡ true → Yields dead block → Answers dead before block after
+yields_answer dead before block after asked yields =
+    subst (λ b. MatchBool b (Yields dead block) ((block ≡ 0) × (after ≡ before))) (sym asked) yields
+
+-- the answer of a chooser that stays as it is: a block that yields, and 0 on a list that no chooser has to answer
+pub stays_answer : {S : Type 0} (dead : List ℕ) (before : S) (block : ℕ) → (askable dead ≡ true → Yields dead block) → (askable dead ≡ false → block ≡ 0) → Answers dead before block before
+stays_answer dead before block yields none = by (askable dead) refl
   where
     by : (v : Bool) → askable dead ≡ v → MatchBool v (Yields dead block) ((block ≡ 0) × (before ≡ before))
     by true is = yields is

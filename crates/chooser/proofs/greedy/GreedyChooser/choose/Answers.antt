@@ -1,8 +1,8 @@
 use Rattle.std.proofs.Common.{rules}
-use Rattle.chooser.proofs.Yield.{fullest_yields, yields_answer}
+use Rattle.chooser.proofs.Yield.{fullest_yields, stays_answer}
 use Rattle.chooser.proofs.greedy.GreedyChooser.choose.Goals as goal
 
 pub returns-clause-law : goal.returns-clause-law
 returns-clause-law c =
     let dead = c.args.question.dead.now in
-    yields_answer dead c.args.self.now c.map_or.result (λ asked. fullest_yields dead c.map_or.result (search rules)) (search rules)
+    stays_answer dead c.args.self.now c.map_or.result (λ asked. fullest_yields dead c.map_or.result (search rules)) (search rules)
