@@ -3,7 +3,7 @@ ghost use Rattle.history.specs.Coupled.{SeatsKept};
 ghost use Rattle.history.specs.Joined.{PromiseStands, PromiseReaches};
 ghost use Rattle.history.specs.Laws.{PlaceIsOne, WorkKeeps, WorkCounts, LiveEraseBreaks, ChoiceYields, WriteCosts, RecycleKeeps, RecycleRight};
 
-// Each function's contract is a theorem. The number returned, 0, says nothing more.
+// Each function's contract is a theorem. The number returned says nothing more; it is 0, since that is promised too.
 
 // A search has one place.
 pub fn place_is_one() -> u8

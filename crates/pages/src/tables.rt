@@ -12,6 +12,8 @@ pub const MOST_BLOCKS: usize = 64;
 // free pages of the chip, and the page where the next search for a free page starts.
 // Both tables are as long as the largest chip needs, since there is no heap. The chip is no field: a store that is
 // shut has a chip and no tables. So every call is lent the chip, and what ties the two is a premise of its contract.
+// A number is an index by `as usize`, which loses nothing: tried by `usize::from`, the proofs of `wipe` and `recycle`
+// did not close, since they do not see through the call.
 #[derive(Drop)]
 pub struct Tables {
     pub map: [Option<u16>; MOST_NUMBERS],

@@ -1,5 +1,6 @@
 -- A read, over plain values. Assumes nothing.
 use Rattle.std.proofs.Common.{◌≡◌, ℕ, ◌<◌, Bool, true, cond, ltb, leb, List, length, Some, Ok, Err, Option, Result, sym, refl, ap, ◌∙◌, subst, arith, rules}
+use Rattle.std.specs.Result.{is_err}
 use Rattle.std.proofs.lemmas.List.{get_or_default}
 use Rattle.std.proofs.lemmas.Bool.{cond-true, lt-ltb}
 use Rattle.chip.specs.declared.words.Refusal.{Refusal as ChipRefusal}
@@ -15,6 +16,11 @@ use Rattle.store.specs.declared.open.Open.{Open}
 use Rattle.store.specs.State.{Standing, standing, Sound}
 use Rattle.store.specs.Effects.{stored_at, read_from, read_told, Same, Reads}
 use Rattle.store.proofs.Booking.{sound_open, opened_sound}
+
+-- what a call was refused with
+pub error_of : {T E : Type 0} (r : Result T E) → is_err r ≡ true → (e : E) × (r ≡ Err e)
+error_of (Ok x) so = absurd (cc)
+error_of (Err e) so = (e, refl)
 
 -- the page that the map names, and what a fetch from it tells
 pub record ReadPage (m : Meaning) (q room : ℕ) (r : Result (ℕ × ℕ) ChipRefusal) : Type 0 where

@@ -87,6 +87,7 @@ impl<C: Chip, H: Chooser> Store<C, H> {
         let shape = self.chip.shape();
         let frame = framed(shape, numbers, alpha, pool);
         may_open(self.opened.is_some(), frame)?;
+        // Asked again, since a ledger takes no caller's word for its frame: so this refusal is never given.
         let ledger = Ledger::opened(frame).ok_or(Refusal::TablesDisagree)?;
         let geometry = Geometry {
             blocks: shape.blocks,

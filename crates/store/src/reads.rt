@@ -21,9 +21,10 @@ impl<C: Chip, H: Chooser> Store<C, H> {
             return Err(Refusal::NoSuchNumber);
         }
         let page = open.tables.page_of(number).ok_or(Refusal::NothingStored)?;
-        let Ok((_, length)) = self.chip.fetch(page, buffer) else {
-            return Err(Refusal::BufferTooShort);
-        };
+        let (_, length) = self
+            .chip
+            .fetch(page, buffer)
+            .map_err(|_| Refusal::BufferTooShort)?;
         Ok(length)
     }
 }

@@ -22,6 +22,7 @@ impl Open {
         if u32::from(number) >= frame.numbers {
             return Err(Refusal::NoSuchNumber);
         }
+        // There is no `From` to `usize` from 32 bits; nothing is lost, a page size is at most 512.
         if size > frame.page_size as usize {
             return Err(Refusal::DataTooLong);
         }
