@@ -51,16 +51,13 @@ impl Tables {
         ensures found { Sized (C.Chip.means chip.old).pages self.now → Found (over self.now.geometry.pages_per_block skip) (C.Chip.means chip.old).pages self.now.start result }
         ensures same { C.Chip.means chip.new ≡ C.Chip.means chip.old }
     {
-        // By `break` out of a labelled block: the search yields its page so, and the range does the counting.
         let mut page = self.start;
-        'search: {
-            for _ in 0..self.geometry.pages() {
-                if self.may_take(chip, page, skip) {
-                    break 'search Some(page);
-                }
-                page = self.geometry.after(page);
+        for _ in 0..self.geometry.pages() {
+            if self.may_take(chip, page, skip) {
+                return Some(page);
             }
-            None
+            page = self.geometry.after(page);
         }
+        None
     }
 }
