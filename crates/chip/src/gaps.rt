@@ -51,7 +51,8 @@ impl Gaps {
         self.table.get(self.next).is_some_and(|gap| *gap <= 1)
     }
 
-    // Counts an accepted program.
+    // Counts an accepted program. Looked at by `get` and written by index: of `get_mut` a proof knows no element after the
+    // write.
     pub(crate) fn wear(&mut self)
         ensures after { drop self.new.next self.new.table ≡ worn (drop self.old.next self.old.table) }
         ensures left { 8 - self.new.next ≡ (8 - self.old.next) - (if strikes (drop self.old.next self.old.table) then 1 else 0) }

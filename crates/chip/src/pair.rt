@@ -36,7 +36,8 @@ impl Half {
 
 impl<A: Chip, B: Chip> Pair<A, B> {
     // The calls of a chip take it by `&mut`, so what only asks a chip says that both stay: the clauses `first` and
-    // `second`, here and below.
+    // `second`, here and below. Each is one equation, and so is what a pair means, `joined`: a name for them would take
+    // both chips as arguments, and say no more.
 
     // Both chips, as they are. Two that do not fit together make a chip without pages.
     pub fn new(first: A, second: B) -> Pair<A, B>
@@ -78,7 +79,7 @@ impl<A: Chip, B: Chip> Pair<A, B> {
         Ok(Half::of(page, front.blocks * front.pages_per_block))
     }
 
-    // Which of the two a block lies in.
+    // Which of the two a block lies in. Not one function with `page`: what they count by differs, and so do the clauses.
     fn block(&mut self, block: u16) -> Result<Half, Refusal>
         ensures value { BlockIn (A.Chip.means self.old.first) (B.Chip.means self.old.second) block result }
         ensures first { A.Chip.means self.new.first ≡ A.Chip.means self.old.first }

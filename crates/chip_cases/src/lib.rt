@@ -8,5 +8,6 @@ mod pairs;
 #[cfg(test)]
 mod slots;
 
-// The bytes of a slot before its data: each slot of the dump in `slots` begins with so many.
+// The bytes of a slot before its data: each slot of the dump in `slots` begins with so many. The name for it in `chip` is
+// private there.
 pub const HEADER: usize = 16;

@@ -29,7 +29,7 @@ pub(crate) const GUEST: Job = Job {
     writes: 1,
 };
 
-// What was done in an evening, summed up.
+// What was done in an evening, summed up. It holds no `Ticked`, which has no sum of its own.
 #[derive(Clone, Copy, Default)]
 pub(crate) struct Totals {
     pub(crate) saves: u32,

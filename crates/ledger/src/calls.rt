@@ -1,4 +1,5 @@
-// The calls on one seat: what they answer, what they make of the books, and what they keep.
+// The calls on one seat: what they answer, what they make of the books, and what they keep. A law ties the books
+// before a call to those after it, so no field can hold it: each call says it.
 ghost use Rattle.std.specs.Prelude.{◌≡◌, ◌<◌, MatchResult};
 ghost use Rattle.ledger.specs.Books.{answer, unless, asks_notice, asks_take, asks_return, noticed, taken, returned, spent, paid, paid_for};
 ghost use Rattle.ledger.specs.Keeps.{Keeps, Spends};
@@ -76,7 +77,7 @@ impl Ledger {
         ensures books { books_of self.new ≡ paid (books_of self.old) }
         ensures law { 0 < (books_of self.old).spare → Spends (books_of self.old) (books_of self.new) }
     {
-        self.spare = self.spare.saturating_sub(1);
+        self.pay_for(1);
     }
 
     // So many page writes failed: the spare account pays for them, and no seat.

@@ -43,7 +43,8 @@ impl Frame {
         )
     }
 
-    // What each collector holds: it can copy every live page of a block with `alpha` dead ones.
+    // What each collector holds: it can copy every live page of a block with `alpha` dead ones. A seat is lent this and
+    // its writes; the two are added where it is known that the sum fits.
     pub(crate) fn collector_share(self) -> u32
         ensures { result ≡ collector_share self }
     {

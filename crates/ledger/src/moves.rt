@@ -1,4 +1,5 @@
-// What each deed and each part of a tick make of one seat.
+// What each deed and each part of a tick make of one seat. What a seat of fair books keeps is a premise here, and no
+// ghost field: the fields of a seat are public, and anyone may make one.
 ghost use Rattle.std.specs.Prelude.{◌≡◌, ◌+◌, ◌^◌, ◌<◌, ◌≤◌};
 ghost use Rattle.ledger.specs.Books.{leaves};
 ghost use Rattle.ledger.specs.Seats.{

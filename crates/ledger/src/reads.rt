@@ -8,7 +8,7 @@ use crate::ledger::Ledger;
 use crate::seat::Seat;
 
 impl Ledger {
-    // The yield of a run.
+    // The yield of a run. `frame` has it too; this call was there before it, and stays.
     pub fn alpha(&self) -> u32
         ensures { result ≡ (books_of self.now).frame.alpha }
     {

@@ -34,7 +34,7 @@ pub enum Refusal {
 }
 
 impl Refusal {
-    // The number of a refusal, as firmware and scripts know it.
+    // The number of a refusal, as firmware and scripts know it. Not by `Display`: a program says it in words of its own.
     pub fn number(self) -> u8
         ensures { result ≡ number self }
     {

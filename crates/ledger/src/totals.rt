@@ -1,5 +1,5 @@
-// Sums over the books. Each is a `for`: a partial sum is known to fit for the books' own seats alone, and a chain
-// with `sum` is bounded by whatever its closure may answer.
+// Sums over the books. Each is a `for`: tried with `map` and `sum`, the proof did not close, since a chain is bounded by
+// whatever its closure may answer, and a partial sum is known to fit for the books' own seats alone.
 ghost use Rattle.std.specs.Prelude.{◌≡◌, ◌*◌, ◌≤◌};
 ghost use Rattle.ledger.specs.Books.{extra, held, highest};
 ghost use Rattle.ledger.specs.Of.{books_of};

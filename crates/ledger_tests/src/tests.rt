@@ -58,6 +58,7 @@ fn a_seat_spends_what_its_plan_allows(rt: HostRuntime) {
         assert_eq!(rt; tick(&mut ledger), ran);
     }
     let seat = ledger.seat(0);
+    // Three of its fields: the lines above have the others.
     assert_eq!(rt; (seat.account, seat.charge, seat.out), (2, 1, 1));
     assert_eq!(rt; ledger.tokens(), 4);
 }

@@ -15,7 +15,8 @@ impl Tables {
         self.page_of(label) == Some(page)
     }
 
-    // Copies a page out of its block if it is live, and says how many programs that took: none if it is not.
+    // Copies a page out of its block if it is live, and says how many programs that took: none if it is not. So 0 is an
+    // answer like any other, and no `None`.
     pub fn copy_one<C: Chip>(
         &mut self,
         chip: &mut C,

@@ -9,13 +9,13 @@ use chooser::{Chooser, Question};
 use ledger::Refusal;
 
 impl Emptied {
-    // One page more was looked at, and copied if any program was called for it.
+    // One page more was looked at, and copied if any program was called for it. Not by `Add`: what is added is one
+    // page's programs.
     fn with(self, made: u32) -> Emptied
         ensures { self.copies + 1 < 2 ^ 32 → self.tries + made < 2 ^ 32 → result ≡ added self made }
     {
-        let copied = if made > 0 { 1 } else { 0 };
         Emptied {
-            copies: self.copies.saturating_add(copied),
+            copies: self.copies.saturating_add(u32::from(made > 0)),
             tries: self.tries.saturating_add(made),
         }
     }
@@ -56,6 +56,7 @@ impl Tables {
     pub fn wipe<C: Chip>(&mut self, chip: &mut C, block: u16) -> Result<(), Refusal>
         ensures { CanWipe (C.Chip.means chip.old) self.old block → Wipes (C.Chip.means chip.old) self.old block result (C.Chip.means chip.new) self.new }
     {
+        // By `as`, here and in `recycle`: tried by `From`, the proofs did not close, which do not see through the call.
         let index = block as usize;
         if index >= self.dead.len() {
             return Err(Refusal::TablesDisagree);

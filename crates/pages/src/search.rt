@@ -51,6 +51,7 @@ impl Tables {
         ensures found { Sized (C.Chip.means chip.old).pages self.now → Found (over self.now.geometry.pages_per_block skip) (C.Chip.means chip.old).pages self.now.start result }
         ensures same { C.Chip.means chip.new ≡ C.Chip.means chip.old }
     {
+        // The range counts the turns and not the pages, since the search goes round from where it starts.
         let mut page = self.start;
         for _ in 0..self.geometry.pages() {
             if self.may_take(chip, page, skip) {

@@ -12,8 +12,7 @@ pub const MOST_BLOCKS: usize = 64;
 // free pages of the chip, and the page where the next search for a free page starts.
 // Both tables are as long as the largest chip needs, since there is no heap. The chip is no field: a store that is
 // shut has a chip and no tables. So every call is lent the chip, and what ties the two is a premise of its contract.
-// A number is an index by `as usize`, which loses nothing: tried by `usize::from`, the proofs of `wipe` and `recycle`
-// did not close, since they do not see through the call.
+// Its counts saturate, so that no call has a premise on them; that they never do is proved with what ties the two.
 #[derive(Drop)]
 pub struct Tables {
     pub map: [Option<u16>; MOST_NUMBERS],
@@ -45,6 +44,6 @@ impl Tables {
     pub fn page_of(&self, number: u16) -> Option<u16>
         ensures { result ≡ maps_of self.now number }
     {
-        *self.map.get(number as usize)?
+        *self.map.get(usize::from(number))?
     }
 }

@@ -11,8 +11,8 @@ impl Tables {
     fn bury(&mut self, page: u16)
         ensures { Countable self.old page → self.new ≡ with_dead self.old (buried self.old page) }
     {
-        // By index, here and in `settle`: of `get_mut` a proof knows no element after the write.
-        let block = self.geometry.block_of(page) as usize;
+        // By index, here, in `settle` and in `wipe`: of `get_mut` a proof knows no element after the write.
+        let block = usize::from(self.geometry.block_of(page));
         if block < self.dead.len() {
             self.dead[block] = self.dead[block].saturating_add(1);
         }
@@ -41,7 +41,7 @@ impl Tables {
         ensures { Replaceable self.old label → self.new ≡ settled self.old label page }
     {
         self.supersede(label);
-        let index = label as usize;
+        let index = usize::from(label);
         if index < self.map.len() {
             self.map[index] = Some(page);
         }

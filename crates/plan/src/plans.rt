@@ -32,7 +32,8 @@ impl Plan {
         })
     }
 
-    // The three numbers together: meta-period, writes, runs.
+    // The three numbers together: meta-period, writes, runs. The fields tell the same;
+    // this call was there before, and stays.
     pub fn numbers(self) -> (u32, u32, u32)
         ensures { result ≡ (self.meta_period, self.writes, self.runs) }
     {

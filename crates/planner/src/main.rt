@@ -4,7 +4,8 @@
 use sheet::{MOST_BYTES, plan_sheet};
 use std::io::{Read, Write};
 
-// One byte more than a sheet may have: enough to see that it is too long.
+// One byte more than a sheet may have: enough to see that it is too long. No `From` takes a `usize` to 64 bits; nothing
+// is lost.
 const READ_AT_MOST: u64 = MOST_BYTES as u64 + 1;
 
 fn main(rt: HostRuntime) -> anyhow::Result<()> {

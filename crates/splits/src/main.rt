@@ -31,7 +31,8 @@ fn map<C: Chip>(rt: &HostRuntime, chip: &mut C) -> io::Result<()> {
     println!(rt; "")
 }
 
-// Tries the pages of the first block from one on, and gives the page after the one that took the split.
+// Tries the pages of the first block from one on, and gives the page after the one that took the split. When the block is
+// full that is past its last page, and the next split tries none.
 fn keep<C: Chip>(
     rt: &HostRuntime,
     chip: &mut C,

@@ -32,7 +32,7 @@ fn framed(shape: Shape, numbers: u32, alpha: u32, pool: u32) -> Frame
     }
 }
 
-// Can a shut store be opened with this frame?
+// Can a shut store be opened with this frame? The bounds stand as numbers, as the rules list them.
 fn may_open(is_open: bool, frame: Frame) -> Result<(), Refusal>
     ensures { result ≡ answer (asks_frame is_open frame) tt }
 {

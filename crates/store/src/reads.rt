@@ -17,6 +17,7 @@ impl<C: Chip, H: Chooser> Store<C, H> {
         ensures promise { (h : History) → Run h (seen self.old) → Entered (entry_read number (length buffer.old) (bytes_read result buffer.new) result) h (seen self.new) }
     {
         let open = self.opened.as_ref().ok_or(Refusal::NotOpen)?;
+        // As a save asks it: one comparison, and no method of both.
         if u32::from(number) >= open.ledger.frame().numbers {
             return Err(Refusal::NoSuchNumber);
         }

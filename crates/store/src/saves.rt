@@ -32,7 +32,8 @@ impl Open {
 
 impl<C: Chip, H: Chooser> Store<C, H> {
     // Saves bytes under a page number, and answers how many tries that took: the spare account pays for the failed
-    // ones, the seat for the good one. The permit is spent whatever the answer.
+    // ones, the seat for the good one. The permit is spent whatever the answer. Number and bytes come one by one, as the
+    // rules list them.
     pub fn save(&mut self, permit: Permit, number: u16, bytes: &[u8]) -> Result<u32, Refusal>
         ensures effect { Saves (seen self.old) permit.seat number bytes.now result (seen self.new) }
         ensures promise { (h : History) → Run h (seen self.old) → Entered (entry_save permit.seat number bytes.now result) h (seen self.new) }

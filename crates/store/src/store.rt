@@ -6,6 +6,8 @@ use chooser::Chooser;
 
 // A store is put together from any chip and any chooser, which it holds by value, and is shut until it is opened.
 // While it is open its chip, its tables and its ledger belong together: no call leaves them otherwise.
+// Each call asks for itself whether it is open: a method that lends what is there would lend the whole store, and
+// `save`, `read` and `tick` need the chip beside it.
 #[derive(Drop)]
 pub struct Store<C: Chip, H: Chooser> {
     pub(crate) chip: C,

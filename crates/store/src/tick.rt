@@ -15,7 +15,7 @@ use ledger::{Refusal, SEATS};
 use pages::Emptied;
 
 impl Ticked {
-    // One run more that needed no recycle.
+    // One run more that needed no recycle. Not by `Add`, here and below: no second `Ticked` is added.
     fn with_run(self) -> Ticked
         ensures { self.runs + 1 < 2 ^ 32 → result ≡ one_run self }
     {
@@ -94,6 +94,7 @@ impl Open {
         ensures { let before = standing C.Chip.means chip.old chooser.old (Some self.old) in let after = standing C.Chip.means chip.new chooser.new (Some self.new) in OpenSound before → Ticks before result after }
     {
         let mut count = Ticked::default();
+        // There are eight, so the cast loses nothing.
         for seat in 0..SEATS as u8 {
             count = self.serve(chip, chooser, seat, count)?;
         }

@@ -52,26 +52,25 @@ fn saved(store: &mut Store<Plain<'_>, Greedy>, number: u16, bytes: &[u8]) -> u8 
     )
 }
 
-// Opens a store over a chip of this many blocks and pages per block.
-fn opened(shape: (u16, u16), numbers: u32, alpha: u32, pool: u32) -> u8 {
+// Opens a store over a chip of this size.
+fn opened(size: Size, numbers: u32, alpha: u32, pool: u32) -> u8 {
     let mut memory = [0u8; 384];
-    let (blocks, pages_per_block) = shape;
-    let chip = Flawed::new(&mut memory, sized(blocks, pages_per_block), &[3]);
+    let chip = Flawed::new(&mut memory, size, &[3]);
     let mut store = Store::new(chip, Greedy);
     number_of(store.open(numbers, alpha, pool))
 }
 
 #[test]
 fn openings(rt: HostRuntime) {
-    assert_eq!(rt; opened((4, 4), 5, 2, 4), 0);
-    assert_eq!(rt; opened((1, 16), 5, 2, 4), 2);
-    assert_eq!(rt; opened((5, 4), 5, 2, 4), 2);
-    assert_eq!(rt; opened((4, 4), 0, 2, 4), 3);
-    assert_eq!(rt; opened((4, 4), 1921, 2, 4), 3);
-    assert_eq!(rt; opened((4, 4), 5, 0, 4), 4);
-    assert_eq!(rt; opened((4, 4), 5, 5, 4), 4);
-    assert_eq!(rt; opened((4, 4), 5, 2, 5), 5);
-    assert_eq!(rt; opened((4, 4), 5, 2, u32::MAX), 5);
+    assert_eq!(rt; opened(sized(4, 4), 5, 2, 4), 0);
+    assert_eq!(rt; opened(sized(1, 16), 5, 2, 4), 2);
+    assert_eq!(rt; opened(sized(5, 4), 5, 2, 4), 2);
+    assert_eq!(rt; opened(sized(4, 4), 0, 2, 4), 3);
+    assert_eq!(rt; opened(sized(4, 4), 1921, 2, 4), 3);
+    assert_eq!(rt; opened(sized(4, 4), 5, 0, 4), 4);
+    assert_eq!(rt; opened(sized(4, 4), 5, 5, 4), 4);
+    assert_eq!(rt; opened(sized(4, 4), 5, 2, 5), 5);
+    assert_eq!(rt; opened(sized(4, 4), 5, 2, u32::MAX), 5);
 }
 
 #[test]
@@ -139,6 +138,7 @@ fn permits(rt: HostRuntime) {
     let mut one = small(&mut one_memory);
     let mut other_memory = [0u8; 384];
     let mut other = small(&mut other_memory);
+    // By `match`: the permit goes to the other store, between two calls on this one.
     let (noticed, returned) = match one.take(0) {
         Ok(permit) => (number_of(one.notice(0)), number_of(other.hand_back(permit))),
         Err(refusal) => (refusal.number(), 0),

@@ -60,7 +60,8 @@ impl<'a> Plain<'a> {
     }
 
     // `told`, `look` and `read` are what both makes of chip in memory answer. The calls of the trait take `&mut self`,
-    // since some chips need it; these three take `&self`, and so need no clauses on what stays.
+    // since some chips need it, and so each says what stays, in both makes: the meaning, the bytes and the gaps. These
+    // three take `&self`, and need no such clauses.
     #[tactic(auto, using(crate::proofs::Placing::told_kind))]
     pub(crate) fn look(&self, page: u16) -> Result<Kind, Refusal>
         ensures { result ≡ kind_told (plain_means self.now) page }

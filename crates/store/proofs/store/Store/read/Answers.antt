@@ -3,7 +3,7 @@ use Rattle.std.specs.Result.{is_err}
 use Rattle.chip.specs.Calls.{fetched_into}
 use Rattle.ledger.specs.declared.frame.Frame.{Frame}
 use Rattle.store.proofs.Reading.{short, error_of}
-use Rattle.ledger.specs.declared.refusal.Refusal.TheVariants.{NoSuchNumber, NothingStored, BufferTooShort}
+use Rattle.ledger.specs.declared.refusal.Refusal.TheVariants.{NoSuchNumber, BufferTooShort}
 use Rattle.pages.specs.Tied.{maps_of}
 use Rattle.store.specs.Seen.{seen}
 use Rattle.store.proofs.Entering.{entered_read}
