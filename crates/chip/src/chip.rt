@@ -25,7 +25,8 @@ pub trait Chip {
     // Puts a label and data on a free page, and says whether the write was good. One that fails spoils the page.
     // The answer is a `bool` in a `Result`, as the rules list it: a refusal leaves the chip as it was, and a write that
     // was done is good or spoiled.
-    // Page, label and data come one by one, as the rules of a chip list them; every make and every caller has them so.
+    // Page, label and data, and page and buffer of `fetch`, come one by one, as the rules of a chip list them; every make
+    // and every caller has them so.
     fn program(&mut self, page: u16, label: u16, bytes: &[u8]) -> Result<bool, Refusal>
         ensures effect { Programmed (means self.old) page label bytes.now result (means self.new) };
 

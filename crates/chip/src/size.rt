@@ -43,7 +43,7 @@ impl Size {
         nth(block, usize::from(self.pages_per_block) * self.wide())
     }
 
-    // Whether a chip may have this size.
+    // Whether a chip may have this size. The bounds stand as numbers, as the rules list them.
     fn in_range(self) -> bool
         ensures { result ≡ in_range self.blocks self.pages_per_block self.page_size }
     {

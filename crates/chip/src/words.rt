@@ -23,7 +23,7 @@ pub enum Refusal {
 }
 
 impl Refusal {
-    // That number.
+    // That number. No `From` takes an enum to it; each is below 256.
     pub fn number(self) -> u8
         ensures { result ≡ number self }
     {

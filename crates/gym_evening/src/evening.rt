@@ -30,6 +30,7 @@ pub(crate) const GUEST: Job = Job {
 };
 
 // What was done in an evening, summed up. It holds no `Ticked`, which has no sum of its own.
+// Not by `Add`, below: a save or a `Ticked` is added, and no second `Totals`.
 #[derive(Clone, Copy, Default)]
 pub(crate) struct Totals {
     pub(crate) saves: u32,

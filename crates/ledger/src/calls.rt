@@ -1,5 +1,6 @@
 // The calls on one seat: what they answer, what they make of the books, and what they keep. A law ties the books
-// before a call to those after it, so no field can hold it: each call says it.
+// before a call to those after it, so no field can hold it: each call says it. So too
+// what the calls that return a permit answer, by `asks_return`.
 ghost use Rattle.std.specs.Prelude.{◌≡◌, ◌<◌, MatchResult};
 ghost use Rattle.ledger.specs.Books.{answer, unless, asks_notice, asks_take, asks_return, noticed, taken, returned, spent, paid, paid_for};
 ghost use Rattle.ledger.specs.Keeps.{Keeps, Spends};

@@ -20,7 +20,7 @@ pub struct Frame {
 }
 
 impl Frame {
-    // Can a ledger be opened with this frame?
+    // Can a ledger be opened with this frame? The bounds stand as numbers, as the rules list them.
     pub(crate) fn stands(self) -> bool
         ensures { result ≡ stands self }
     {

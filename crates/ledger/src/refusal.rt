@@ -35,6 +35,7 @@ pub enum Refusal {
 
 impl Refusal {
     // The number of a refusal, as firmware and scripts know it. Not by `Display`: a program says it in words of its own.
+    // No `From` takes an enum to its number; each is below 256.
     pub fn number(self) -> u8
         ensures { result ≡ number self }
     {

@@ -27,7 +27,8 @@ impl Ledger {
         sum
     }
 
-    // What the runs of the seats, each but the last of its meta-period, can add to the tokens.
+    // What the runs of the seats, each but the last of its meta-period, can add to the tokens. Not one function with
+    // `held`: another summand, and a filter.
     fn extra(&self) -> u32
         ensures sum { result ≡ extra self.now.frame.alpha self.now.seats }
         ensures bound { result ≤ 8 * 32736 }
