@@ -66,12 +66,6 @@ module _ {b c : Books} (fair : FairBooks b) (i : ℕ) where
   pub run_adds : c ≡ made_one b i → 0 < owes b i → tokens c ≡ tokens b + b.frame.alpha
   run_adds is some = grind (arith, common_steps, tokens_ran b i)
 
-  pub step_unsettles : c ≡ stepped b i → Settled b → SettledBut i c
-  step_unsettles is all = grind (arith, common_steps)
-
-  pub run_unsettles : c ≡ made_one b i → SettledBut i b → SettledBut i c
-  run_unsettles is but = grind (arith, common_steps)
-
   pub end_keeps : c ≡ ended b i → owes b i ≡ 0 → tokens c ≤ tokens b
   end_keeps is none = grind (arith, common_steps, tokens_ended, none_owed)
 

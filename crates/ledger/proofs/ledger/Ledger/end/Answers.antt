@@ -3,7 +3,7 @@ use Rattle.ledger.specs.Books.{with_seat, with_pool}
 use Rattle.ledger.specs.Of.{books_of}
 use Rattle.ledger.proofs.Ends.{back, turned_put}
 use Rattle.ledger.proofs.Facts.{fair_of}
-use Rattle.ledger.proofs.Kept.{end_keeps, end_settles}
+use Rattle.ledger.proofs.Kept.{end_keeps}
 use Rattle.ledger.proofs.Puts.{put_as_with}
 use Rattle.ledger.proofs.ledger.Ledger.end.Goals as goal
 
@@ -15,6 +15,3 @@ invariant_of-self c =
 
 pub returns-clause-tokens : goal.returns-clause-tokens
 returns-clause-tokens c = end_keeps {c = with_pool (with_seat (books_of c.args.self.now) c.from.result c.turned.result) (c.args.self.now.pool + c.if-leaves.back)} (fair_of c.args.self.now) c.args.seat (search rules)
-
-pub returns-clause-settled : goal.returns-clause-settled
-returns-clause-settled c = end_settles {c = with_pool (with_seat (books_of c.args.self.now) c.from.result c.turned.result) (c.args.self.now.pool + c.if-leaves.back)} (fair_of c.args.self.now) c.args.seat (search rules)

@@ -3,7 +3,7 @@ use Rattle.ledger.proofs.Puts.{put_as, one_later_put}
 use Rattle.ledger.specs.Books.{with_seat}
 use Rattle.ledger.specs.Of.{books_of}
 use Rattle.ledger.proofs.Facts.{fair_of}
-use Rattle.ledger.proofs.Kept.{step_keeps, step_unsettles}
+use Rattle.ledger.proofs.Kept.{step_keeps}
 use Rattle.ledger.proofs.ledger.Ledger.enter.Goals as goal
 
 pub invariant_of-self : goal.invariant_of-self
@@ -14,6 +14,3 @@ invariant_of-self c =
 
 pub returns-then-found-clause-tokens : goal.returns-then-found-clause-tokens
 returns-then-found-clause-tokens c = step_keeps {c = with_seat (books_of c.args.self.now) c.from.result c.one_later.result} (fair_of c.args.self.now) c.args.seat (search rules)
-
-pub returns-then-found-clause-settled : goal.returns-then-found-clause-settled
-returns-then-found-clause-settled c = step_unsettles {c = with_seat (books_of c.args.self.now) c.from.result c.one_later.result} (fair_of c.args.self.now) c.args.seat (search rules)

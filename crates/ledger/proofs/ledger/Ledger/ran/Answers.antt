@@ -5,7 +5,7 @@ use Rattle.ledger.specs.Of.{books_of}
 use Rattle.ledger.proofs.Facts.{fair_of}
 use Rattle.ledger.proofs.Jobs.{account_within, due_within}
 use Rattle.ledger.proofs.Puts.{put_as, ran_put}
-use Rattle.ledger.proofs.Kept.{run_adds, run_unsettles}
+use Rattle.ledger.proofs.Kept.{run_adds}
 use Rattle.ledger.proofs.ledger.Ledger.ran.Goals as goal
 
 pub ran-requires : goal.ran-requires
@@ -28,6 +28,3 @@ invariant_of-self c =
 
 pub returns-then-found-due-clause-tokens : goal.returns-then-found-due-clause-tokens
 returns-then-found-due-clause-tokens c = run_adds {c = with_seat (books_of c.args.self.now) c.from.result c.ran.result} (fair_of c.args.self.now) c.args.seat (search rules)
-
-pub returns-then-found-due-clause-settled : goal.returns-then-found-due-clause-settled
-returns-then-found-due-clause-settled c = run_unsettles {c = with_seat (books_of c.args.self.now) c.from.result c.ran.result} (fair_of c.args.self.now) c.args.seat (search rules)
