@@ -1,15 +1,15 @@
 -- Where the pages of a chip in memory lie, and what is asked of them.
-use Rattle.std.proofs.Common.{◌≡◌, ℕ, zero, suc, zero-mul, ◌+◌, ◌-◌, ◌*◌, ◌<◌, ◌≤◌, Bool, true, false, cond, ltb, leb, List, ◌++◌, length, take, drop, set, replicate, Some, None, Ok, Err, Option, Result, sym, refl, ap, ◌∙◌, inl, inr, mul_assoc, arith}
+use Rattle.std.proofs.Common.{◌≡◌, ℕ, ◌+◌, ◌-◌, ◌*◌, ◌<◌, ◌≤◌, Bool, true, false, cond, ltb, leb, List, ◌++◌, length, take, drop, set, replicate, Some, None, Ok, Err, Option, Result, sym, refl, ap, ◌∙◌, inl, inr, mul_assoc, arith}
 use borrow.Rule.Slice.PartMut.{put_mid}
 use Rattle.std.proofs.lemmas.List.{length-replicate, length-take, length-drop, drop-drop}
-use Rattle.std.proofs.lemmas.Bool.{cases_Bool, cond-true, cond-false, ne_eqb, lt-ltb, le-leb, lt-leb}
+use Rattle.std.proofs.lemmas.Bool.{cases_Bool, cond-true, cond-false, lt-ltb, le-leb, lt-leb}
 use Rattle.std.specs.declared.ops.Range.{Range}
 use Rattle.chip.specs.declared.size.Size.{Size}
 use Rattle.chip.specs.declared.words.Refusal.{Refusal}
 use Rattle.chip.specs.declared.words.Refusal.TheVariants.{NotThere, WrongKind, TooLong}
 use Rattle.chip.specs.Meaning.{Page, free, spoiled, written, Meaning, nothing, page_at}
 use Rattle.chip.specs.Calls.{is_free, asks_program, with_page, with_block_free, kind_of, kind_told, erase_told, erased, fetched_page, fetched, fetched_into, in_front, data_of}
-use Rattle.chip.specs.Slot.{wide, room, sized, all_ones, page_of, fetched_onto, slot_at, with_slot, blank_block, pages_of, fits, laid}
+use Rattle.chip.specs.Slot.{wide, room, all_ones, page_of, fetched_onto, slot_at, with_slot, blank_block, pages_of, fits, laid}
 use Rattle.chip.specs.Makes.{means_of, size_for, Whole, Within, BlockWithin}
 use Rattle.chip.specs.Shaping.{length_pages, fit, made_laid, made_nothing, made_zeros}
 use Rattle.chip.proofs.Windows.{length_patched}
@@ -126,13 +126,23 @@ module _ (s : Size) (left : ℕ) (memory : List ℕ) where
       pub told_erased : with_block_free meant b ≡ erased meant b
       told_erased = ap (λ t. cond t (with_block_free meant b) meant) (sym found)
 
-  -- ---- a page that is not there
+  -- ---- a page or a block that is not there
 
   pub least_pages : (q : ℕ) → count ≤ q → length meant.pages ≤ q
   least_pages q l =
       elim (cases_Bool good) [
         | inl whole ↦ omega (arith, length_meant whole, l)
         | inr other ↦ no_pages other q
+      ]
+
+  pub no_blocks : good ≡ false → (b : ℕ) → meant.blocks ≤ b
+  no_blocks other b = omega (arith, ap (λ m. m.blocks) (means_nothing other))
+
+  pub least_blocks : (b : ℕ) → s.blocks ≤ b → meant.blocks ≤ b
+  least_blocks b l =
+      elim (cases_Bool good) [
+        | inl whole ↦ omega (arith, ap (λ m. m.blocks) (means_laid whole), l)
+        | inr other ↦ no_blocks other b
       ]
 
 -- ---- what the code leaves in memory, and what that means
@@ -151,17 +161,7 @@ module _ (s : Size) (memory : List ℕ) where
         rw (e, span, in'.begins)
         (ap (λ z. take (q * wide s.page_size) memory ++ (new ++ z)) (drop-drop (wide s.page_size) (q * wide s.page_size) memory))
 
--- ---- what is known of the sizes
-
-some_factor : (n per q : ℕ) → q < n * per → 0 < n
-some_factor zero per q l = absurd (omega (arith, zero-mul per, l))
-some_factor (suc n) per q l = omega arith
-
-pub whole_when : (s : Size) (long : ℕ) → sized s.blocks s.pages_per_block s.page_size long ≡ true → 0 < s.blocks → Whole s long
-whole_when s long e some = rw (ne_eqb s.blocks 0 (λ z. omega (arith, z, some))) at e
-
-pub whole_at : (s : Size) (long : ℕ) → sized s.blocks s.pages_per_block s.page_size long ≡ true → (q : ℕ) → q < s.blocks * s.pages_per_block → Whole s long
-whole_at s long e q l = whole_when s long e (some_factor s.blocks s.pages_per_block q l)
+-- ---- what the size means that a chip takes on
 
 pub means_none : (s : Size) (left : ℕ) (memory : List ℕ) → s.blocks ≡ 0 → means_of s left memory ≡ nothing
 unfolding fits

@@ -12,10 +12,9 @@
 -- pages_of     the pages that memory means: its slots, one by one
 -- laid         what memory means as a chip of some size
 -- fits         sizes that a chip may have, and memory of just that length
--- sized        no pages, or sizes that fit
 -- made         what a chip that is made of memory means
 -- Layout       the laws that tie the two directions
-use Rattle.std.specs.Prelude.{◌≡◌, ℕ, zero, suc, ◌+◌, ◌-◌, ◌*◌, ◌/◌, ◌%◌, ◌<◌, ◌≤◌, Bool, true, false, cond, ◌&&◌, ◌||◌, List, [], ◌∷◌, ◌++◌, length, take, drop, replicate, Ok, Err, Result, ◌==◌, nat_le, nat_lt, slice_index, slice_set}
+use Rattle.std.specs.Prelude.{◌≡◌, ℕ, zero, suc, ◌+◌, ◌-◌, ◌*◌, ◌/◌, ◌%◌, ◌<◌, ◌≤◌, Bool, true, false, cond, ◌&&◌, List, [], ◌∷◌, ◌++◌, length, take, drop, replicate, Ok, Err, Result, ◌==◌, nat_le, nat_lt, slice_index, slice_set}
 use Rattle.chip.specs.Meaning.{Page, free, spoiled, written, Meaning, nothing}
 use Rattle.chip.specs.Calls.{wiped, data_of, in_front}
 use Rattle.chip.specs.declared.words.Refusal.{Refusal}
@@ -114,10 +113,6 @@ taken n per_block size = n * per_block * wide size
 
 unfoldable pub fits : ℕ → ℕ → ℕ → ℕ → Bool
 fits n per_block size long = in_range n per_block size && taken n per_block size == long
-
--- no pages, or sizes that fit
-abbrev pub sized : ℕ → ℕ → ℕ → ℕ → Bool
-sized n per_block size long = n == 0 || fits n per_block size long
 
 -- what a chip that is made of memory means: nothing, unless the sizes are in range and the memory is as long as they ask
 abbrev pub made : ℕ → ℕ → ℕ → ℕ → List ℕ → Meaning

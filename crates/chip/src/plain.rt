@@ -1,6 +1,3 @@
-ghost use Rattle.std.specs.Prelude.{◌≡◌, true, length};
-ghost use Rattle.chip.specs.Slot.{sized};
-
 mod calls;
 
 use crate::size::Size;
@@ -9,8 +6,9 @@ use crate::size::Size;
 #[derive(Drop)]
 pub struct Plain<'a> {
     memory: &'a mut [u8],
-    // It has no pages, or takes just this memory. Where the memory does not fit it is a size of zeros, and not an Option
-    // without one: either means a chip without pages, and so each call asks one question and not two.
+    // Where the memory does not fit it is a size of zeros, and not an Option without one: either means a chip without
+    // pages, and so each call asks one question, whether the size fits, and not two. No ghost field says that it fits: a
+    // function that takes by value a chip with a ghost field beside its `&mut` can neither lend it nor put it into a pair
+    // or a store.
     size: Size,
-    ghost sized: { sized size.blocks size.pages_per_block size.page_size (length memory.now) ≡ true },
 }

@@ -30,11 +30,11 @@ impl<'a> Plain<'a> {
     }
 
     // The slot of a page.
-    #[tactic(auto, using(crate::proofs::Placing::least_pages))]
+    #[tactic(auto, using(crate::proofs::Placing::no_pages, crate::proofs::Placing::least_pages))]
     fn slot(&self, page: u16) -> Result<Slot<'_>, Refusal>
         ensures { Held self.now page result }
     {
-        if usize::from(page) >= self.size.pages() {
+        if !self.size.fits(self.memory.len()) || usize::from(page) >= self.size.pages() {
             return Err(Refusal::NotThere);
         }
         let at = self.size.slot(page);
@@ -44,11 +44,10 @@ impl<'a> Plain<'a> {
     }
 
     // The shape, with so many failures left.
-    #[tactic(auto, using(crate::proofs::Placing::means_none))]
     pub(crate) fn told(&self, allowance: u16) -> Shape
         ensures { result ≡ shape_of (means_of self.now.size allowance self.now.memory.now) }
     {
-        if self.size.blocks == 0 {
+        if !self.size.fits(self.memory.len()) {
             return Shape::default();
         }
         Shape {
@@ -93,10 +92,11 @@ impl<'a> Plain<'a> {
     }
 
     // Where the slots of a block lie.
+    #[tactic(auto, using(crate::proofs::Placing::no_blocks, crate::proofs::Placing::least_blocks))]
     fn block(&self, block: u16) -> Result<Range<usize>, Refusal>
         ensures { Bounded self.now block result }
     {
-        if block >= self.size.blocks {
+        if !self.size.fits(self.memory.len()) || block >= self.size.blocks {
             return Err(Refusal::NotThere);
         }
         Ok(self.size.block(block))
