@@ -1,3 +1,4 @@
 pub mod Cuts
+pub mod Decimals
 pub mod Digits
 pub mod Whole

@@ -11,8 +11,10 @@ pub fn number(word: &[u8]) -> Option<u16>
     }
     let mut value: u32 = 0;
     for b in word {
-        let digit = char::from(*b).to_digit(10)?;
-        value = value.checked_mul(10)?.checked_add(digit)?;
+        value = value * 10 + char::from(*b).to_digit(10)?;
+        if value > u32::from(u16::MAX) {
+            return None;
+        }
     }
     u16::try_from(value).ok()
 }

@@ -1,11 +1,11 @@
-ghost use Rattle.std.specs.Prelude.{◌≡◌, ◌≤◌, [], ◌∷◌, ◌++◌, length, string_bytes, IfOk, OnOk};
+ghost use Rattle.std.specs.Prelude.{◌≡◌, ◌≤◌, [], ◌∷◌, ◌++◌, length, IfOk, OnOk};
 ghost use Rattle.script.specs.Reader.{words_left};
 ghost use Rattle.script.specs.Text.{line_feed, script_of};
 ghost use Rattle.sheet.specs.Law.{Answers};
 ghost use Rattle.sheet.specs.Sheet.{most_bytes, plan_for, plan_line, sheet_of};
 
 use plan::{Job, Plan};
-use script::{Line, Script, number};
+use script::{Line, Script, number, push_number};
 use std::alloc::{AllocError, Global};
 
 // The most bytes that a sheet may have.
@@ -16,15 +16,15 @@ pub fn plan_sheet(heap: Global, input: &[u8]) -> Result<Vec<u8>, AllocError>
     ensures bytes { IfOk result (λ out. out.items ≡ sheet_of input.now) }
     ensures law { IfOk result (λ out. length input.now ≤ most_bytes → Answers (script_of input.now) (script_of out.items)) }
 {
-    let mut out = String::new(heap);
+    let mut out = Vec::new(heap);
     if input.len() > MOST_BYTES {
-        writeln!(out, "!")?;
+        out.extend_from_slice(b"!\n")?;
     } else {
         for line in Script::new(input) {
             write_answer(&mut out, plan_of(line))?;
         }
     }
-    Ok(out.into_bytes())
+    Ok(out)
 }
 
 // The plan of a line, where it is three numbers in range.
@@ -42,11 +42,18 @@ fn plan_of(mut line: Line<'_>) -> Option<Plan>
     Plan::of(alpha.into(), job)
 }
 
-fn write_answer(out: &mut String, plan: Option<Plan>) -> Result<(), AllocError>
-    ensures { OnOk result (string_bytes out.new ≡ string_bytes out.old ++ (plan_line plan ++ (line_feed ∷ []))) }
+// Number by number, and not by `writeln!`: a sheet of short lines took more than half as long again by that.
+fn write_answer(out: &mut Vec<u8>, plan: Option<Plan>) -> Result<(), AllocError>
+    ensures { OnOk result (out.new.items ≡ out.old.items ++ (plan_line plan ++ (line_feed ∷ []))) }
 {
-    match plan {
-        Some(plan) => writeln!(out, "{} {} {}", plan.meta_period, plan.writes, plan.runs),
-        None => writeln!(out, "?"),
-    }
+    let Some(plan) = plan else {
+        return out.extend_from_slice(b"?\n");
+    };
+    push_number(out, plan.meta_period)?;
+    out.push(b' ')?;
+    push_number(out, plan.writes)?;
+    out.push(b' ')?;
+    push_number(out, plan.runs)?;
+    out.push(b'\n')?;
+    Ok(())
 }
