@@ -17,6 +17,7 @@ use Rattle.ledger.proofs.Sums.{extra_set}
 
 pub record Sized (α p w : ℕ) (plan : Plan) : Type 0 where
   pub is : plan_of α p w ≡ plan
+  pub runs_some : 1 ≤ plan.runs
   pub writes_few : plan.writes ≤ 1024
   pub runs_few : plan.runs ≤ 1024
 

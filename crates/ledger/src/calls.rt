@@ -1,9 +1,9 @@
 // The calls on one seat: what they answer, what they make of the books, and what they keep. A law ties the books
 // before a call to those after it, so no field can hold it: each call says it. So too
 // what the calls that return a permit answer, by `asks_return`.
-ghost use Rattle.std.specs.Prelude.{◌≡◌, ◌<◌, MatchResult};
+ghost use Rattle.std.specs.Prelude.{◌≡◌, ◌<◌, ◌≤◌, MatchResult};
 ghost use Rattle.ledger.specs.Books.{answer, unless, asks_notice, asks_take, asks_return, noticed, taken, returned, spent, paid, paid_for};
-ghost use Rattle.ledger.specs.Keeps.{Keeps, Spends};
+ghost use Rattle.ledger.specs.Keeps.{Keeps, Spends, SpendsMany};
 ghost use Rattle.ledger.specs.Of.{books_of};
 
 use crate::ledger::Ledger;
@@ -83,7 +83,8 @@ impl Ledger {
 
     // So many page writes failed: the spare account pays for them, and no seat.
     pub fn pay_for(&mut self, failed: u32)
-        ensures { books_of self.new ≡ paid_for failed (books_of self.old) }
+        ensures books { books_of self.new ≡ paid_for failed (books_of self.old) }
+        ensures law { failed ≤ (books_of self.old).spare → SpendsMany failed (books_of self.old) (books_of self.new) }
     {
         self.spare = self.spare.saturating_sub(failed);
     }

@@ -162,13 +162,13 @@ module _ {C H : Type 0} {means : C → Meaning} (s : Standing means H) (numbers 
   not_opened t e told chip chooser is_open ledger tables = search rules
 
   module _ (shaped : Shaped s.chip) (x : Unit {0}) (told : ◌≡◌ {A = Result (Unit {0}) Refusal} (Ok x) (answer (asks_frame s.is_open f) tt)) where
-    may : Openable s.is_open (frame_for s.chip numbers alpha pool)
+    pub may : Openable s.is_open (frame_for s.chip numbers alpha pool)
     may = search rules
 
     pub frame_refused : option_map books_of None ≡ cond (stands f) (Some (opened_books f)) None → ⊥
     frame_refused said = search rules
 
-    frame_opened : (l : Ledger) → option_map books_of (Some l) ≡ cond (stands f) (Some (opened_books f)) None → books_of l ≡ opened_books (frame_for s.chip numbers alpha pool)
+    pub frame_opened : (l : Ledger) → option_map books_of (Some l) ≡ cond (stands f) (Some (opened_books f)) None → books_of l ≡ opened_books (frame_for s.chip numbers alpha pool)
     frame_opened l said = search rules
 
     -- a store with these parts was opened

@@ -5,7 +5,9 @@
 -- SoundAt       tables, ledger and chip of an open store belong together, and every token has a free page: this is
 --               true inside a tick too
 -- Standing      what a store is: what its chip means, its chooser, and whether it is open, with its ledger and its tables
--- standing      the same of a store's parts; one that is shut has no tokens, and maps nothing
+-- Parts         a store's parts, which its contracts see
+-- parts         the same put together
+-- standing      what a store of these parts is; one that is shut has no tokens, and maps nothing
 -- Sound         a store is shut, or open with all of that and with settled seats
 -- sound_prop    that there is one proof of this at most
 -- view_of       what can be seen of a store: its map, its chip's pages, and account and charge of each seat
@@ -66,6 +68,14 @@ pub record Standing {C : Type 0} (means : C → Meaning) (H : Type 0) : Type 0 w
   pub is_open : Bool
   pub ledger : Ledger
   pub tables : Tables
+
+pub record Parts (C H : Type 0) : Type 0 where
+  pub chip : C
+  pub chooser : H
+  pub opened : Option Open
+
+abbrev pub parts : {C H : Type 0} → C → H → Option Open → Parts C H
+parts k c o = record { chip = k; chooser = c; opened = o }
 
 pub no_ledger : Ledger
 no_ledger = record { seats = replicate 8 nobody; pool = 0; spare = 0; frame = idle; fair = ∣ search rules ∣₁ }

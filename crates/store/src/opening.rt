@@ -4,7 +4,7 @@ ghost use Rattle.chip.specs.Meaning.{Meaning};
 ghost use Rattle.chip.specs.Calls.{shape_of};
 ghost use Rattle.ledger.specs.Books.{answer};
 ghost use Rattle.history.specs.History.{History};
-ghost use Rattle.store.specs.State.{frame_for};
+ghost use Rattle.store.specs.State.{frame_for, Sound};
 ghost use Rattle.store.specs.Seen.{seen};
 ghost use Rattle.store.specs.Effects.{asks_frame, blank, Opens};
 ghost use Rattle.store.specs.Calls.{Run, Entered, entry_open};
@@ -69,7 +69,8 @@ impl<C: Chip, H: Chooser> Store<C, H> {
         ensures shut { result.opened ≡ None }
         ensures chip { result.chip ≡ chip }
         ensures chooser { result.chooser ≡ chooser }
-        ensures run { Run [] (seen result) }
+        ensures sound { Sound (seen C.Chip.means result) }
+        ensures run { Run [] (seen C.Chip.means result) }
     {
         Store {
             chip,
@@ -81,8 +82,9 @@ impl<C: Chip, H: Chooser> Store<C, H> {
     // Opens the store: erases every block, and offers `numbers` page numbers over a pool of tokens. A run of the
     // collector wins back `alpha` pages.
     pub fn open(&mut self, numbers: u32, alpha: u32, pool: u32) -> Result<(), Refusal>
-        ensures effect { Opens (seen self.old) numbers alpha pool result (seen self.new) }
-        ensures promise { (h : History) → Run h (seen self.old) → Entered (entry_open numbers alpha pool result) h (seen self.new) }
+        ensures effect { Opens (seen C.Chip.means self.old) numbers alpha pool result (seen C.Chip.means self.new) }
+        ensures sound { Sound (seen C.Chip.means self.new) }
+        ensures promise { (h : History) → Run h (seen C.Chip.means self.old) → Entered (entry_open numbers alpha pool result) h (seen C.Chip.means self.new) }
     {
         let shape = self.chip.shape();
         let frame = framed(shape, numbers, alpha, pool);

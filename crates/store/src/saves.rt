@@ -3,6 +3,7 @@ ghost use Rattle.std.specs.Prelude.{◌≡◌, length};
 ghost use Rattle.ledger.specs.Books.{answer};
 ghost use Rattle.ledger.specs.Of.{books_of};
 ghost use Rattle.history.specs.History.{History};
+ghost use Rattle.store.specs.State.{Sound};
 ghost use Rattle.store.specs.Seen.{seen};
 ghost use Rattle.store.specs.Effects.{asks_page, Saves};
 ghost use Rattle.store.specs.Calls.{Run, Entered, entry_save};
@@ -35,8 +36,9 @@ impl<C: Chip, H: Chooser> Store<C, H> {
     // ones, the seat for the good one. The permit is spent whatever the answer. Number and bytes come one by one, as the
     // rules list them.
     pub fn save(&mut self, permit: Permit, number: u16, bytes: &[u8]) -> Result<u32, Refusal>
-        ensures effect { Saves (seen self.old) permit.seat number bytes.now result (seen self.new) }
-        ensures promise { (h : History) → Run h (seen self.old) → Entered (entry_save permit.seat number bytes.now result) h (seen self.new) }
+        ensures effect { Saves (seen C.Chip.means self.old) permit.seat number bytes.now result (seen C.Chip.means self.new) }
+        ensures sound { Sound (seen C.Chip.means self.new) }
+        ensures promise { (h : History) → Run h (seen C.Chip.means self.old) → Entered (entry_save permit.seat number bytes.now result) h (seen C.Chip.means self.new) }
     {
         let Permit { seat } = permit;
         let open = self.opened.as_mut().ok_or(Refusal::NotOpen)?;

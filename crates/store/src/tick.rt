@@ -1,6 +1,6 @@
 ghost use Rattle.std.specs.Prelude.{◌≡◌, ℕ, ◌+◌, ◌^◌, ◌<◌, Some};
 ghost use Rattle.history.specs.History.{History};
-ghost use Rattle.store.specs.State.{standing, OpenSound};
+ghost use Rattle.store.specs.State.{standing, Sound, OpenSound};
 ghost use Rattle.store.specs.Seen.{seen};
 ghost use Rattle.store.specs.Effects.{Ticks};
 ghost use Rattle.store.specs.Calls.{Run, Entered, entry_tick};
@@ -105,8 +105,9 @@ impl Open {
 impl<C: Chip, H: Chooser> Store<C, H> {
     // A tick of the clock: every seat in use makes the runs that are due.
     pub fn tick(&mut self) -> Result<Ticked, Refusal>
-        ensures effect { Ticks (seen self.old) result (seen self.new) }
-        ensures promise { (h : History) → Run h (seen self.old) → Entered (entry_tick result) h (seen self.new) }
+        ensures effect { Ticks (seen C.Chip.means self.old) result (seen C.Chip.means self.new) }
+        ensures sound { Sound (seen C.Chip.means self.new) }
+        ensures promise { (h : History) → Run h (seen C.Chip.means self.old) → Entered (entry_tick result) h (seen C.Chip.means self.new) }
     {
         let open = self.opened.as_mut().ok_or(Refusal::NotOpen)?;
         open.pass(&mut self.chip, &mut self.chooser)

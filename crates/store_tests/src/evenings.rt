@@ -3,7 +3,7 @@ use chip::{Chip, Flawed, Pair, Plain, Size};
 use chooser::{Chooser, Greedy, Hand};
 use ledger::Refusal;
 use plan::Job;
-use store::Store;
+use store::{Store, Ticked};
 
 // Saves and their tries, then what the ticks did: runs, recycles, copies and their tries. The program has such totals
 // of its own: to share them, a crate would have to stand between it and its tests.
@@ -148,4 +148,36 @@ fn a_pair_of_chips_is_one_chip(rt: HostRuntime) {
         evening(Pair::new(first, second), Hand::new(), 40),
         [40, 42, 23, 4, 3, 3]
     );
+}
+
+// What a caller keeps over chips of any make: a store over two of them, and nothing else. It names what the chips have
+// to be, and no bound on the pair: so a store has to stand in a field over a chip that an `impl` alone makes one.
+#[derive(Drop)]
+struct Desk<A: Chip, B: Chip> {
+    store: Store<Pair<A, B>, Greedy>,
+}
+
+impl<A: Chip, B: Chip> Desk<A, B> {
+    fn tick(&mut self) -> Result<Ticked, Refusal> {
+        self.store.tick()
+    }
+}
+
+#[test]
+fn a_store_over_a_pair_stands_in_a_field_of_a_generic_struct(rt: HostRuntime) {
+    let mut front = [0u8; 384];
+    let mut back = [0u8; 384];
+    let first = Plain::new(&mut front, sized(2));
+    let second = Plain::new(&mut back, sized(2));
+    let mut desk = Desk {
+        store: Store::new(Pair::new(first, second), Greedy),
+    };
+    assert_eq!(rt; desk.tick(), Err(Refusal::NotOpen));
+    assert_eq!(rt; admitted(&mut desk.store), Ok(()));
+    // One run in four ticks for the first job, two in six for the second.
+    let mut runs = 0u32;
+    for _ in 0..12u8 {
+        runs = runs.saturating_add(desk.tick().map_or(0, |done| done.runs));
+    }
+    assert_eq!(rt; runs, 7);
 }
